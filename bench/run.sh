@@ -1,0 +1,89 @@
+#!/bin/sh
+# Times the runner beside qemu-riscv32 on the same loops: bench/run.sh [RUNNER]
+#
+# RUNNER is the built program, crates/ccai/out/ccai if it is not given; it is called as `RUNNER run IMAGE`,
+# with `--steps N` behind if it takes that option. Without the option its limit is 10^8 steps, and the
+# loops are so long; with it they are 10^9 instructions. Each is run RUNS times, and the least time counts.
+set -eu
+here=$(cd "$(dirname "$0")" && pwd)
+runner=${1:-$here/../crates/ccai/out/ccai}
+runs=${RUNS:-3}
+
+for tool in qemu-riscv32 riscv64-unknown-elf-gcc riscv64-unknown-elf-objcopy python3; do
+    if ! command -v "$tool" >/dev/null; then
+        echo "skipped: $tool is not installed"
+        exit 0
+    fi
+done
+if [ ! -x "$runner" ]; then
+    echo "skipped: $runner is not built"
+    exit 0
+fi
+
+work=$(mktemp -d)
+trap 'rm -rf "$work"' EXIT
+
+# build NAME SOURCE EXIT TURNS: an ELF of a source
+build() {
+    riscv64-unknown-elf-gcc -march=rv32im -mabi=ilp32 -nostdlib \
+        -Wa,--defsym,EXIT="$3" -Wa,--defsym,TURNS="$4" -Wa,--defsym,TABLE=0x11 \
+        -Wl,-Ttext=0x10000 -Wl,-Tbss=0x11000 -o "$work/$1" "$here/$2.s"
+}
+
+# image NAME SOURCE TURNS [WORDS]: an image of a source
+image() {
+    build "$1.elf" "$2" 3 "$3"
+    riscv64-unknown-elf-objcopy -O binary -j .text "$work/$1.elf" "$work/$1.text"
+    python3 "$here/image.py" "$work/$1.text" "$work/$1.image" ${4:-}
+}
+
+# least COMMAND..: the least user and system time of its runs in seconds, and its status
+least() {
+    python3 - "$runs" "$@" <<'PY'
+import resource, subprocess, sys
+best, status = None, None
+for _ in range(int(sys.argv[1])):
+    before = resource.getrusage(resource.RUSAGE_CHILDREN)
+    status = subprocess.run(sys.argv[2:], stdin=subprocess.DEVNULL).returncode
+    after = resource.getrusage(resource.RUSAGE_CHILDREN)
+    spent = after.ru_utime + after.ru_stime - before.ru_utime - before.ru_stime
+    best = spent if best is None else min(best, spent)
+print(f"{best:.2f} {status}")
+PY
+}
+
+image probe exit 1
+if "$runner" run "$work/probe.image" --steps 10 </dev/null 2>/dev/null; then
+    scale=100000000
+    steps="--steps 2000000000"
+else
+    scale=9999999
+    steps=
+fi
+
+for loop in alu mem; do
+    case $loop in
+        alu) turns=$((scale * 2)) ;;
+        mem) turns=$scale ;;
+    esac
+    instructions=$((scale * 10))
+    build "$loop.linux" "$loop" 93 "$turns"
+    image "$loop" "$loop" "$turns"
+    set -- $(least qemu-riscv32 "$work/$loop.linux")
+    theirs=$1 their_status=$2
+    # shellcheck disable=SC2086
+    set -- $(least "$runner" run "$work/$loop.image" $steps)
+    ours=$1 our_status=$2
+    if [ "$our_status" != "$their_status" ]; then
+        echo "$loop: status $our_status, and $their_status of qemu-riscv32"
+        exit 1
+    fi
+    python3 -c "
+n, ours, theirs = $instructions, max($ours, 0.01), max($theirs, 0.01)
+print(f'$loop: {n} instructions, {ours:.2f} s ({n / ours / 1e6:.0f} million a second), '
+      f'qemu-riscv32 {theirs:.2f} s, 1/{ours / theirs:.1f} of its rate')"
+done
+
+image big exit 1 $((1 << 24))
+set -- $(least "$runner" run "$work/big.image")
+echo "load: 2^24 words in $1 s, status $2"

@@ -1,0 +1,15 @@
+pub mod Bad
+pub mod Classes
+pub mod Closings
+pub mod Elements
+pub mod Found
+pub mod Gaps
+pub mod Longest
+pub mod Markers
+pub mod Marks
+pub mod Numerals
+pub mod Openings
+pub mod Pieces
+pub mod Quoted
+pub mod Runs
+pub mod Values

@@ -1,0 +1,10 @@
+pub mod Fronts
+pub mod WhiteSpace
+pub mod Names
+pub mod Numbers
+pub mod Literals
+pub mod Punctuators
+pub mod Features
+pub mod Lexemes
+pub mod Tokens
+pub mod Scan

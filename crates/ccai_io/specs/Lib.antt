@@ -1,0 +1,9 @@
+pub mod Outside
+pub mod Calls
+pub mod Table
+pub mod MemShelf
+pub mod Sure
+pub mod FileShelf
+pub mod Coded
+pub mod MemSource
+pub mod MemSink

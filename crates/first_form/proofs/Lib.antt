@@ -1,0 +1,3 @@
+pub mod Lexemes
+pub mod Forms
+pub mod Programs

@@ -1,0 +1,4 @@
+pub mod Lexemes
+pub mod Form
+pub mod Refused
+pub mod Code

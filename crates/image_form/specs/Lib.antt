@@ -1,0 +1,10 @@
+pub mod Limits
+pub mod Codes
+pub mod Words
+pub mod Bytes
+pub mod Rightness
+pub mod Form
+pub mod Contents
+pub mod Checked
+pub mod Header
+pub mod Laws

@@ -1,0 +1,12 @@
+pub mod State
+pub mod Arithmetic
+pub mod Bytes
+pub mod Effect
+pub mod Step
+pub mod Run
+pub mod Start
+pub mod After
+pub mod Reading
+pub mod Decoded
+pub mod Pc
+pub mod Pause

@@ -1,0 +1,5 @@
+pub mod Table
+pub mod Fields
+pub mod Instruction
+pub mod Candidate
+pub mod Laws

@@ -1,0 +1,12 @@
+//! A table of names in nested scopes.
+//!
+//! What an inner scope declares hides what the outer ones say of the same key, and is forgotten where
+//! that scope is left. The table is the list of its pairs: a scope is opened by a mark, which is the
+//! length of the list, and is left by going back to that length.
+#![tactic(auto)]
+
+mod table;
+#[cfg(test)]
+mod tests;
+
+pub use table::ScopeMap;

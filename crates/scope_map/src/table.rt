@@ -1,0 +1,94 @@
+ghost use Rattle.std.specs.Prelude.{◌≡◌, ℕ, ◌≤◌, List, [], ◌∷◌, ◌++◌, OnErr, OnOk, if◌then◌else◌, is_some, length, take};
+ghost use Rattle.std.specs.List.{list_any};
+ghost use Rattle.std.specs.Option.{option_copied};
+ghost use Rattle.scope_map.specs.Scopes.{Marked, latest};
+
+use std::alloc::Global;
+use std::hash::Hash;
+use std::marker::Model;
+use word_ops::Memory;
+
+/// A table from keys to values in nested scopes, which contracts see as the list of its pairs, the
+/// oldest first.
+///
+/// A `mark` says how long the table is, and `leave` goes back to it. `Marked now mark at` of the
+/// specification says that the mark was made at the list `at` and not left since.
+#[derive(Debug, Drop)]
+pub struct ScopeMap<K: Eq + Hash + Drop, V: Drop> {
+    pairs: Vec<(K, V)>,
+}
+
+impl<K: Eq + Hash + Drop, V: Drop> Model for ScopeMap<K, V> {
+    ghost use Rattle.std.specs.Prelude.{List};
+    ghost use Rattle.std.specs.Coded.{coded_list, coded×};
+
+    ghost Value = { List (K × V) };
+
+    ghost coded = { coded_list (coded× K.code V.code) };
+
+    ghost view = { λ table. table.pairs.items };
+}
+
+impl<K: Eq + Hash + Drop, V: Drop> ScopeMap<K, V> {
+    /// A table without a pair. Takes no memory.
+    pub fn new(alloc: Global) -> Self
+        ensures { result ≡ [] }
+    {
+        ScopeMap {
+            pairs: Vec::new(alloc),
+        }
+    }
+
+    /// The value of the last pair whose key equals this one, or `None` where no pair has the key.
+    pub fn get(&self, key: &K) -> Option<&V>
+        ensures last { option_copied result ≡ latest K.eq self.now key.now }
+        ensures found { is_some result ≡ list_any (λ pair. K.eq pair.0 key.now) self.now }
+    {
+        latest_in(&self.pairs, key)
+    }
+
+    /// Puts a pair behind the others, so that it hides those of an equal key.
+    ///
+    /// # Errors
+    ///
+    /// `Memory` where memory for the pair is wanting; nothing has changed then.
+    #[tactic(auto, using(crate::proofs::Latest::lookups))]
+    pub fn insert(&mut self, key: K, value: V) -> Result<(), Memory>
+        ensures appended { OnOk result (self.new ≡ self.old ++ (key, value) ∷ []) }
+        ensures kept { OnErr result (self.new ≡ self.old) }
+        ensures hides { OnOk result ((asked : K) → latest K.eq self.new asked ≡ (if K.eq key asked then Some value else latest K.eq self.old asked)) }
+        ensures marks { (mark : ℕ) (at : List (K × V)) → Marked self.old mark at → Marked self.new mark at }
+    {
+        self.pairs.push((key, value))?;
+        Ok(())
+    }
+
+    /// Marks the present scope: the number of pairs.
+    pub fn mark(&self) -> usize
+        ensures length { result ≡ length self.now }
+        ensures made { Marked self.now result self.now }
+    {
+        self.pairs.len()
+    }
+
+    /// Goes back to a mark: the pairs since then are gone, and older marks stay good.
+    pub fn leave(&mut self, mark: usize)
+        requires { mark ≤ length self.old }
+        ensures left { self.new ≡ take mark self.old }
+        ensures back { (at : List (K × V)) → Marked self.old mark at → self.new ≡ at }
+        ensures older { (older : ℕ) (at : List (K × V)) → older ≤ mark → Marked self.old older at → Marked self.new older at }
+    {
+        self.pairs.truncate(mark);
+    }
+}
+
+// The value of the last pair whose key equals this one.
+fn latest_in<'a, K: Eq, V>(pairs: &'a [(K, V)], key: &K) -> Option<&'a V>
+    ensures { option_copied result ≡ latest K.eq pairs.now key.now }
+{
+    pairs
+        .iter()
+        .rev()
+        .find(|pair| pair.0 == *key)
+        .map(|pair| &pair.1)
+}

@@ -1,0 +1,5 @@
+pub mod Interval
+pub mod Bits
+pub mod Congruence
+pub mod Meets
+pub mod Records

@@ -1,0 +1,4 @@
+pub mod Tells
+pub mod Runs
+pub mod FirstForms
+pub mod Sources

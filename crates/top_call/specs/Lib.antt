@@ -1,0 +1,6 @@
+pub mod CommandLine
+pub mod Outcome
+pub mod Lines
+pub mod FirstForm
+pub mod Drive
+pub mod Steps

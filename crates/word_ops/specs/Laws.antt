@@ -1,0 +1,18 @@
+-- Laws of the definitions beside this file, by subject.
+pub mod Lists
+pub mod Operations
+pub mod Widths
+pub mod Regions
+pub mod Accesses
+pub mod Loads
+pub mod MayLoads
+pub mod Fading
+pub mod Values
+pub mod Words
+pub mod Addresses
+pub mod Runs
+pub mod Clock
+pub mod Outcomes
+pub mod FadedStores
+pub mod Bytes
+pub mod Pointers

@@ -1,0 +1,15 @@
+pub mod Word
+pub mod Choice
+pub mod Operation
+pub mod Store
+pub mod Access
+pub mod Values
+pub mod Addresses
+pub mod Changes
+pub mod Run
+pub mod Following
+pub mod Clock
+pub mod Outcome
+pub mod Laws
+pub mod Examples
+pub mod Instances

@@ -1,0 +1,43 @@
+use std::alloc::{AllocError, AllocFailed};
+use std::error::Error;
+use std::fmt;
+
+/// Want of memory: an allocation was refused.
+///
+/// Each error type of the project has it as a variant of its own, and it may come wherever memory
+/// is taken. It has one value, so no clause names it.
+#[derive(Clone, Copy, Debug, PartialEq, Eq)]
+pub struct Memory;
+
+impl fmt::Display for Memory {
+    fn fmt<W: fmt::Write>(&self, f: &mut fmt::Formatter<W>) -> fmt::Result {
+        write!(f, "out of memory")
+    }
+}
+
+impl Error for Memory {}
+
+impl From<AllocError> for Memory {
+    fn from(_refused: AllocError) -> Memory {
+        Memory
+    }
+}
+
+impl<T: Drop> From<AllocFailed<T>> for Memory {
+    fn from(_refused: AllocFailed<T>) -> Memory {
+        Memory
+    }
+}
+
+#[cfg(test)]
+mod tests {
+    use super::Memory;
+    use std::test::Fail;
+
+    #[test]
+    fn says_out_of_memory(rt: HostRuntime) -> Result<(), Fail> {
+        let text = format!(in rt.alloc(); "{}", Memory)?;
+        assert_eq!(rt; text.as_str(), "out of memory");
+        Ok(())
+    }
+}
