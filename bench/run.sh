@@ -1,12 +1,11 @@
 #!/bin/sh
-# Times the runner beside qemu-riscv32 on the same loops: bench/run.sh [RUNNER]
+# Times the runner beside qemu-riscv32 on the same loops of 10^9 instructions: bench/run.sh [RUNNER]
 #
-# RUNNER is the built program, crates/ccai/out/ccai if it is not given; it is called as `RUNNER run IMAGE`,
-# with `--steps N` behind if it takes that option. Without the option its limit is 10^8 steps, and the
-# loops are so long; with it they are 10^9 instructions. Each is run RUNS times, and the least time counts.
+# RUNNER is the built program of crates/ccai_bench, called as `RUNNER run IMAGE STEPS`; it is the machine of
+# `ccai run` with a limit of its own on the steps. Each loop is run RUNS times, and the least time counts.
 set -eu
 here=$(cd "$(dirname "$0")" && pwd)
-runner=${1:-$here/../crates/ccai/out/ccai}
+runner=${1:-$here/../crates/ccai_bench/out/ccai_bench}
 runs=${RUNS:-3}
 
 for tool in qemu-riscv32 riscv64-unknown-elf-gcc riscv64-unknown-elf-objcopy python3; do
@@ -16,7 +15,7 @@ for tool in qemu-riscv32 riscv64-unknown-elf-gcc riscv64-unknown-elf-objcopy pyt
     fi
 done
 if [ ! -x "$runner" ]; then
-    echo "skipped: $runner is not built"
+    echo "skipped: $runner is not built (rt run in crates/ccai_bench builds it)"
     exit 0
 fi
 
@@ -52,14 +51,8 @@ print(f"{best:.2f} {status}")
 PY
 }
 
-image probe exit 1
-if "$runner" run "$work/probe.image" --steps 10 </dev/null 2>/dev/null; then
-    scale=100000000
-    steps="--steps 2000000000"
-else
-    scale=9999999
-    steps=
-fi
+scale=100000000
+steps=2000000000
 
 for loop in alu mem; do
     case $loop in
@@ -71,8 +64,7 @@ for loop in alu mem; do
     image "$loop" "$loop" "$turns"
     set -- $(least qemu-riscv32 "$work/$loop.linux")
     theirs=$1 their_status=$2
-    # shellcheck disable=SC2086
-    set -- $(least "$runner" run "$work/$loop.image" $steps)
+    set -- $(least "$runner" run "$work/$loop.image" "$steps")
     ours=$1 our_status=$2
     if [ "$our_status" != "$their_status" ]; then
         echo "$loop: status $our_status, and $their_status of qemu-riscv32"
@@ -85,5 +77,5 @@ print(f'$loop: {n} instructions, {ours:.2f} s ({n / ours / 1e6:.0f} million a se
 done
 
 image big exit 1 $((1 << 24))
-set -- $(least "$runner" run "$work/big.image")
+set -- $(least "$runner" run "$work/big.image" "$steps")
 echo "load: 2^24 words in $1 s, status $2"
