@@ -12,10 +12,10 @@ pub enum Initialiser {
     Expression(Expr),
     /// `{` initialisers, a last comma where one stands, `}`
     List {
-        open: Pos,
+        opening: Pos,
         items: Items<InitialiserItem>,
         comma: Option<Pos>,
-        close: Pos,
+        closing: Pos,
     },
 }
 

@@ -16,26 +16,26 @@ pub struct Pointer {
 #[derive(Drop)]
 pub struct Declarator {
     pub pointers: Items<Pointer>,
-    pub core: Core,
-    pub suffixes: Items<Dimension>,
+    pub direct: Direct,
+    pub suffixes: Items<DeclaratorSuffix>,
 }
 
 /// What stands in the middle of a declarator.
 #[cycle(tree)]
 #[derive(Drop)]
-pub enum Core {
+pub enum Direct {
     /// No name, as in a type name.
     Nothing,
     /// The name that is declared.
-    Name(Identifier),
+    Named(Identifier),
     /// `(` declarator `)`
-    Paren(Pos, Boxed<Declarator>, Pos),
+    Grouped(Pos, Boxed<Declarator>, Pos),
 }
 
 /// What stands behind the middle of a declarator (C11 6.7.6.2, 6.7.6.3).
 #[cycle(tree)]
 #[derive(Drop)]
-pub enum Dimension {
+pub enum DeclaratorSuffix {
     /// `[` `]`
     Array(Pos, Pos),
     /// `[` size `]`

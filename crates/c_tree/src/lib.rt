@@ -11,7 +11,7 @@ mod token;
 mod unit;
 
 pub use declaration::{Declaration, InitDeclarator, Initialiser, InitialiserItem, Start};
-pub use declarator::{Core, Declarator, Dimension, Parameter, Pointer};
+pub use declarator::{Declarator, DeclaratorSuffix, Direct, Parameter, Pointer};
 pub use expression::{
     Branch, Expr, Identifier, Level, Literal, Mark, Next, Prefix, Suffix, TypeName,
 };

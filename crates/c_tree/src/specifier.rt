@@ -58,9 +58,9 @@ pub enum Specifier {
     Struct {
         word: Pos,
         tag: Option<Identifier>,
-        open: Pos,
+        opening: Pos,
         members: Items<Member>,
-        close: Pos,
+        closing: Pos,
     },
     /// `enum` name
     EnumTag(Pos, Identifier),
@@ -68,10 +68,10 @@ pub enum Specifier {
     Enum {
         word: Pos,
         tag: Option<Identifier>,
-        open: Pos,
+        opening: Pos,
         enumerators: Items<Enumerator>,
         comma: Option<Pos>,
-        close: Pos,
+        closing: Pos,
     },
     /// A typedef name (C11 6.7.8).
     TypedefName(Identifier),

@@ -6,9 +6,9 @@ use word_ops::{Boxed, Items};
 /// `(` expression `)` behind `if`, `while` or `switch`.
 #[derive(Drop)]
 pub struct Condition {
-    pub open: Pos,
+    pub opening: Pos,
     pub value: Expr,
-    pub close: Pos,
+    pub closing: Pos,
 }
 
 /// `if` behind `else`, and its condition.
@@ -28,12 +28,12 @@ pub enum ForHead {
 /// What stands in the brackets of `for` (C11 6.8.5.3).
 #[derive(Drop)]
 pub struct ForControl {
-    pub open: Pos,
+    pub opening: Pos,
     pub head: ForHead,
     pub condition: Option<Expr>,
     pub semicolon: Pos,
     pub step: Option<Expr>,
-    pub close: Pos,
+    pub closing: Pos,
 }
 
 /// A statement (C11 6.8), with the place of each of its tokens.
@@ -86,9 +86,9 @@ pub struct Else {
 #[cycle(statement)]
 #[derive(Drop)]
 pub struct Block {
-    pub open: Pos,
+    pub opening: Pos,
     pub items: Items<BlockItem>,
-    pub close: Pos,
+    pub closing: Pos,
 }
 
 /// What stands in a block. Labels stand only in the block of a `switch`.
