@@ -133,10 +133,10 @@ LEAVES = {
 
 # What is told of each type by a fold: for the levels, the type of what is told of it.
 LEVELS = {
-    "DeclaratorSuffix": "SuffixFacts", "Direct": "DirectFacts", "Expr": "ℕ", "Prefix": "PrefixKind",
+    "DeclaratorSuffix": "SuffixFacts", "Direct": "DeclaratorFacts", "Expr": "ℕ", "Prefix": "PrefixKind",
     "Suffix": "Bool", "Enumerator": "ListedFacts", "Specifier": "SpecifierKind",
     "Declarator": "DeclaratorFacts", "Parameter": "ParameterFacts", "Branch": "Bool",
-    "Next": "Operand", "TypeName": "Bool", "Member": "Bool", "MemberDeclarator": "ListedFacts",
+    "Next": "Operand", "TypeName": "Bool", "Member": "Bool", "MemberDeclarator": "MemberDeclaratorFacts",
     "Initialiser": "Bool", "InitialiserItem": "ListedFacts",
     "BlockItem": "ItemFacts", "Stmt": "StatementFacts", "Block": "BlockFacts", "Else": "ElseFacts",
 }
@@ -200,12 +200,13 @@ def uses(crate, cycle):
     for kind, (file, shape, _) in cycle.items():
         own = f"Rattle.c_tree.specs.declared.{file}.{kind}"
         if shape == "enum":
-            lines.append(f"use {own}.{{{kind}}}")
+            lines.append(f"use {own}.{{{kind}, roll-{kind}}}")
             lines.append(f"use {own}.TheVariants as {snake(kind)}")
         else:
-            lines.append(f"use {own}.{{{kind}, out-{kind}, roll-{kind}}}")
+            lines.append(f"use {own}.{{{kind}, out-{kind}, roll-{kind}, roll-out-{kind}}}")
     lines.append(f"use {at}.TheOpen.{{{', '.join(kind + '-F' for kind in cycle)}}}")
-    words = [f"{word}-{kind}" for kind in cycle for word in ("fold", "fold-roll", "fold_out")]
+    words = [f"{word}-{kind}" for kind in cycle for word in ("fold", "fold-roll", "map")]
+    lines.append(f"use Rattle.c_tree.specs.Layers.{{{', '.join(kind + 'Layer' for kind in cycle)}}}")
     lines.append(f"use {at}.TheFolds.{{{', '.join(words)}}}")
     return lines
 
@@ -226,6 +227,23 @@ def layer_file(cycles):
     return out
 
 
+def parts_file(cycles):
+    out = [GENERATED, "-- One node of a tree, with what the levels tell of each part in its place."]
+    out += ["use Rattle.std.specs.Prelude.{ℕ, Bool}", "use Rattle.c_tree.specs.Levels.Names.{With}"]
+    for file in sorted(set(FACT_FILES.values())):
+        facts = ", ".join(sorted(fact for fact in FACT_FILES if FACT_FILES[fact] == file))
+        out.append(f"use Rattle.c_tree.specs.Levels.{file}.{{{facts}}}")
+    for cycle in cycles.values():
+        head = next(iter(cycle))
+        layers = ", ".join(kind + "-F" for kind in cycle)
+        out.append(f"use Rattle.c_tree.specs.declared.{place(head)}.{head}.TheOpen.{{{layers}}}")
+    for cycle in cycles.values():
+        carriers = " ".join(f"(With {LEVELS[kind]})" for kind in cycle)
+        for kind in cycle:
+            out += ["", f"abbrev pub {kind}Parts : Type 0", f"{kind}Parts = {kind}-F {carriers}"]
+    return out
+
+
 def mapped(family, part, value):
     if not isinstance(part, tuple):
         return value
@@ -242,6 +260,15 @@ def equations(family, cycle):
     for kind in order:
         name = family.function(kind)
         out += ["", f"unfoldable pub {name} : {kind} → {family.carrier(kind)}", f"{name} = fold-{kind} {carriers} {steps}"]
+    out += ["", "-- ---- what a fold tells of one node"]
+    trees = " ".join(order)
+    functions = " ".join(family.function(kind) for kind in order)
+    for kind in order:
+        name, step = family.function(kind), family.steps(kind)
+        out += [
+            "", f"pub {name}-roll : (node : {kind}Layer) → {name} (roll-{kind} node) ≡ {step} (map-{kind} {trees} {carriers} {functions} node)",
+            opened, f"{name}-roll = fold-roll-{kind} {carriers} {steps}",
+        ]
     out += ["", "-- ---- one equation for each kind of node"]
     for kind, (_, shape, body) in cycle.items():
         name, step = family.function(kind), family.steps(kind)
@@ -257,19 +284,16 @@ def equations(family, cycle):
                 rolls = f"({snake(kind)}.rolls-{variant}{values})" if parts else f"{snake(kind)}.rolls-{variant}"
                 arrow = f"{binders} →" if parts else ""
                 out += [
-                    "", f"pub {name}-{variant} :{arrow} {lhs} ≡ {step} {layer}", opened,
-                    f"{name}-{variant}{values} = ap {name} (sym {rolls}) ∙ fold-roll-{kind} {carriers} {steps} {plain}",
+                    "", f"pub {name}-{variant} :{arrow} {lhs} ≡ {step} {layer}",
+                    f"{name}-{variant}{values} = ap {name} (sym {rolls}) ∙ {name}-roll {plain}",
                 ]
         else:
-            of = lambda value: "; ".join(
-                f"{field} = {mapped(family, what, f'{value}.{field}').removeprefix('(').removesuffix(')')}" if isinstance(what, tuple)
-                else f"{field} = {value}.{field}" for field, what in body)
-            layer = f"{kind}-F {' '.join(order)}"
+            of = "; ".join(
+                f"{field} = {mapped(family, what, f'(out-{kind} node).{field}').removeprefix('(').removesuffix(')')}" if isinstance(what, tuple)
+                else f"{field} = (out-{kind} node).{field}" for field, what in body)
             out += [
-                "", f"pub {name}-roll : (x : {layer}) → {name} (roll-{kind} x) ≡ {step} (record {{ {of('x')} }})", opened,
-                f"{name}-roll = fold-roll-{kind} {carriers} {steps}",
-                "", f"pub {name}-is : (x : {kind}) → {name} x ≡ {step} (record {{ {of(f'(out-{kind} x)')} }})", opened,
-                f"{name}-is = fold_out-{kind} {carriers} {steps}",
+                "", f"pub {name}-is : (node : {kind}) → {name} node ≡ {step} (record {{ {of} }})",
+                f"{name}-is node = ap {name} (sym (roll-out-{kind} node)) ∙ {name}-roll (out-{kind} node)",
             ]
     return out
 
@@ -294,9 +318,9 @@ def family_file(family, title, cycle):
 
 
 FACT_FILES = {
-    "Operand": "Facts", "PrefixKind": "Facts", "SpecifierKind": "Facts", "DirectFacts": "Facts", "SuffixFacts": "Facts",
-    "DeclaratorFacts": "Facts", "ParameterFacts": "Facts", "ListedFacts": "Facts",
-    "ItemFacts": "OfStatements", "StatementFacts": "OfStatements", "BlockFacts": "OfStatements", "ElseFacts": "OfStatements",
+    "Operand": "Facts", "PrefixKind": "Facts", "SpecifierKind": "Facts", "SuffixFacts": "Facts",
+    "DeclaratorFacts": "Facts", "MemberDeclaratorFacts": "Facts", "ParameterFacts": "Facts", "ListedFacts": "Facts",
+    "ItemFacts": "StatementFacts", "StatementFacts": "StatementFacts", "BlockFacts": "StatementFacts", "ElseFacts": "StatementFacts",
 }
 
 
@@ -308,6 +332,7 @@ def write(path, lines):
 
 def main():
     write("Layers.antt", layer_file(CYCLES))
+    write("Levels/Layers.antt", parts_file(CYCLES))
     for family in FAMILIES:
         for title, cycle in CYCLES.items():
             write(f"{family.module}/{title}.antt", family_file(family, title, cycle))
