@@ -6,6 +6,7 @@ mod declarator;
 mod expression;
 mod refusal;
 mod specifier;
+mod spelling;
 mod statement;
 mod token;
 mod unit;

@@ -1,11 +1,11 @@
 -- The spelling of one node of an expression, a specifier or a declarator, from the spellings of its parts.
-use Rattle.std.specs.Prelude.{ℕ, List, [], ◌∷◌, ◌++◌, Option}
+use Rattle.std.specs.Prelude.{ℕ, List, [], ◌∷◌, ◌++◌, Option, map}
 use Rattle.c_tree.specs.declared.token.Punct.TheVariants as p
 use Rattle.c_tree.specs.declared.token.Keyword.TheVariants as word
 use Rattle.c_tree.specs.declared.token.TokenKind.TheVariants as k
 use Rattle.c_tree.specs.declared.declarator.DeclaratorSuffix.TheOpen.{DeclaratorSuffix-F, Direct-F, Expr-F, Prefix-F, Suffix-F, Enumerator-F, Specifier-F}
 use Rattle.c_tree.specs.Layers.{DeclaratorSuffixOf, DirectOf, ExprOf, PrefixOf, SuffixOf, EnumeratorOf, SpecifierOf, DeclaratorOf, ParameterOf, BranchOf, NextOf, TypeNameOf, MemberOf, MemberDeclaratorOf}
-use Rattle.c_tree.specs.Spelling.Tokens.{Spelling, token, punct, keyword, mark, name, joined, literals, parens, brackets, braces, comma_at, name_at, pointers, storage_word, type_word}
+use Rattle.c_tree.specs.Spelling.Tokens.{Spelling, token, punct, keyword, mark, name, joined, literal_spelling, parens, brackets, braces, comma_at, name_at, pointer_spelling, storage_word, type_word}
 
 -- ---- expressions (C11 6.5)
 
@@ -13,7 +13,7 @@ abbrev pub spelled_expr : ExprOf Spelling → Spelling
 spelled_expr (Expr-F.Name id) = name id ∷ []
 spelled_expr (Expr-F.Number value kind at) = token (k.Number value kind) at ∷ []
 spelled_expr (Expr-F.Char value at) = token (k.Char value) at ∷ []
-spelled_expr (Expr-F.Strings all) = literals all
+spelled_expr (Expr-F.Strings all) = joined (map literal_spelling all)
 spelled_expr (Expr-F.Paren from inner to) = parens from inner to
 spelled_expr (Expr-F.Postfix operand suffixes) = operand ++ joined suffixes
 spelled_expr (Expr-F.SizeofType at from type to) = keyword word.Sizeof at ∷ parens from type to
@@ -71,7 +71,7 @@ spelled_enumerator (Enumerator-F.Valued comma id equals value) = comma_at comma 
 -- ---- declarators (C11 6.7.6)
 
 abbrev pub spelled_declarator : DeclaratorOf Spelling → Spelling
-spelled_declarator d = pointers d.pointers ++ (d.direct ++ joined d.suffixes)
+spelled_declarator d = joined (map pointer_spelling d.pointers) ++ (d.direct ++ joined d.suffixes)
 
 abbrev pub spelled_direct : DirectOf Spelling → Spelling
 spelled_direct Direct-F.Nothing = []

@@ -36,9 +36,6 @@ mark m = punct m.punct m.place
 abbrev pub name : Identifier → Token
 name id = token (k.Name id.text) id.place
 
-abbrev pub literal : Literal → Token
-literal l = token (k.Bytes l.bytes) l.place
-
 -- the kinds of tokens, without their places
 abbrev pub kinds : Spelling → List TokenKind
 kinds [] = []
@@ -49,9 +46,8 @@ abbrev pub joined : List Spelling → Spelling
 joined [] = []
 joined (s ∷ ss) = s ++ joined ss
 
-abbrev pub literals : List Literal → Spelling
-literals [] = []
-literals (l ∷ ls) = literal l ∷ literals ls
+abbrev pub literal_spelling : Literal → Spelling
+literal_spelling l = token (k.Bytes l.bytes) l.place ∷ []
 
 abbrev pub between : Token → Spelling → Token → Spelling
 between first inner last = first ∷ (inner ++ last ∷ [])
@@ -78,14 +74,12 @@ abbrev pub name_at : Option Identifier → Spelling
 name_at None = []
 name_at (Some id) = name id ∷ []
 
-abbrev pub consts : List Pos → Spelling
-consts [] = []
-consts (at ∷ rest) = keyword word.Const at ∷ consts rest
+abbrev pub const_spelling : Pos → Spelling
+const_spelling place = keyword word.Const place ∷ []
 
--- `*` and the `const` words behind it, for each pointer
-abbrev pub pointers : List Pointer → Spelling
-pointers [] = []
-pointers (one ∷ rest) = punct p.Star one.star ∷ (consts one.constants ++ pointers rest)
+-- `*` and the `const` words behind it
+abbrev pub pointer_spelling : Pointer → Spelling
+pointer_spelling one = punct p.Star one.star ∷ joined (map const_spelling one.constants)
 
 abbrev pub storage_word : Storage → Keyword
 storage_word storage.Typedef = word.Typedef

@@ -1,0 +1,4 @@
+//! The kinds of the tokens of a tree.
+
+mod token;
+mod tree;
