@@ -42,10 +42,10 @@ abbrev pub level_of_stmt : StmtParts → With StatementFacts
 level_of_stmt (Stmt-F.Block block) = by (λ b. closed (b.good && not b.has_label)) (scoped block)
 level_of_stmt (Stmt-F.Expression value semicolon) = by closed (value_level value)
 level_of_stmt (Stmt-F.If at condition body others) = scoped (by (λ r. record {
-    good = r.0 && (r.1.0.good && chained r.1.0.takes_else r.1.1);
-    takes_else = takes_more r.1.1;
-    is_if = true
-  }) (condition_level condition then (scoped body then in_row others)))
+  good = r.0 && (r.1.0.good && chained r.1.0.takes_else r.1.1);
+  takes_else = takes_more r.1.1;
+  is_if = true;
+}) (condition_level condition then (scoped body then in_row others)))
 level_of_stmt (Stmt-F.While at condition body) = scoped (by (λ r. record { good = r.0 && r.1.good; takes_else = r.1.takes_else; is_if = false }) (condition_level condition then scoped body))
 level_of_stmt (Stmt-F.Do at body while_at condition semicolon) = scoped (by (λ r. closed (r.0.good && r.1)) (scoped body then condition_level condition))
 level_of_stmt (Stmt-F.For at control body) = scoped (by (λ r. record { good = r.0 && r.1.good; takes_else = r.1.takes_else; is_if = false }) (for_control_level control then scoped body))

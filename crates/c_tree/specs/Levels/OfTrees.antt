@@ -88,27 +88,27 @@ level_of_enumerator (Enumerator-F.Valued before id equals value) = declaring (λ
 
 abbrev pub level_of_declarator : DeclaratorParts → With DeclaratorFacts
 level_of_declarator d = by (λ r. record {
-    good = r.0.good && suffixes_good r.1;
-    name = r.0.name;
-    is_nothing = not (filled d.pointers) && (r.0.is_nothing && not (filled r.1));
-    names_typedef = r.0.names_typedef;
-    begins_typed = not (filled d.pointers) && r.0.begins_typed;
-    may_be_parameters = r.0.may_be_parameters;
-    beside = nearest r.0.beside r.1 d.pointers
-  }) (d.direct then in_row d.suffixes)
+  good = r.0.good && suffixes_good r.1;
+  name = r.0.name;
+  is_nothing = not (filled d.pointers) && (r.0.is_nothing && not (filled r.1));
+  names_typedef = r.0.names_typedef;
+  begins_typed = not (filled d.pointers) && r.0.begins_typed;
+  may_be_parameters = r.0.may_be_parameters;
+  beside = nearest r.0.beside r.1 d.pointers;
+}) (d.direct then in_row d.suffixes)
 
 abbrev pub level_of_direct : DirectParts → With DeclaratorFacts
 level_of_direct Direct-F.Nothing = told (record { good = true; name = None; is_nothing = true; names_typedef = false; begins_typed = false; may_be_parameters = false; beside = Alone })
 level_of_direct (Direct-F.Named id) = λ names. let seen = is_typedef_name names id.text in (record { good = true; name = Some id.text; is_nothing = false; names_typedef = seen; begins_typed = seen; may_be_parameters = false; beside = Alone }, [])
 level_of_direct (Direct-F.Grouped from inner to) = by (λ d. record {
-    good = d.good && not d.is_nothing;
-    name = d.name;
-    is_nothing = false;
-    names_typedef = d.names_typedef;
-    begins_typed = false;
-    may_be_parameters = d.begins_typed || d.may_be_parameters;
-    beside = d.beside
-  }) inner
+  good = d.good && not d.is_nothing;
+  name = d.name;
+  is_nothing = false;
+  names_typedef = d.names_typedef;
+  begins_typed = false;
+  may_be_parameters = d.begins_typed || d.may_be_parameters;
+  beside = d.beside;
+}) inner
 
 abbrev pub level_of_declarator_suffix : DeclaratorSuffixParts → With SuffixFacts
 level_of_declarator_suffix (DeclaratorSuffix-F.Array from to) = told (record { good = true; beside = Other })
@@ -120,8 +120,8 @@ level_of_declarator_suffix (DeclaratorSuffix-F.Parameters from all to) = λ name
 -- a parameter is visible from its end to that of its list
 abbrev pub level_of_parameter : ParameterParts → With ParameterFacts
 level_of_parameter p = declaring (λ facts. facts.names) (by (λ r. let s = facts_of_specifiers r.0 in record {
-    comma = is_some p.comma;
-    good = s.good && declares Parameter s.names_type r.1;
-    is_void = s.is_void && r.1.is_nothing;
-    names = declared s.has_typedef r.1
-  }) (in_row p.specifiers then p.declarator))
+  comma = is_some p.comma;
+  good = s.good && declares Parameter s.names_type r.1;
+  is_void = s.is_void && r.1.is_nothing;
+  names = declared s.has_typedef r.1;
+}) (in_row p.specifiers then p.declarator))

@@ -27,7 +27,7 @@ body_level d body = scoped (λ names. body (names ++ parameters_of d.beside))
 -- the part beside the name is a parameter list, and no label stands in the block
 abbrev pub definition_level : Definition → With Bool
 definition_level d = leads_to (specifiers_level d.specifiers) (λ s.
-  leads_to (declaring (declared s.has_typedef) (declarator_level d.declarator)) (λ f.
+    leads_to (declaring (declared s.has_typedef) (declarator_level d.declarator)) (λ f.
     by (λ body. s.good && (declares Declaring s.names_type f && (is_listing f.beside && (body.good && not body.has_label)))) (body_level f (block_level d.body))))
 
 abbrev pub external_level : External → With Bool

@@ -24,7 +24,11 @@ pub(super) fn keyword(out: &mut Vec<TokenKind>, keyword: Keyword) -> Result<(), 
     Ok(())
 }
 
-pub(super) fn identifier(alloc: Global, out: &mut Vec<TokenKind>, id: &Identifier) -> Result<(), Memory>
+pub(super) fn identifier(
+    alloc: Global,
+    out: &mut Vec<TokenKind>,
+    id: &Identifier,
+) -> Result<(), Memory>
     ensures { OnOk result (out.new.items ≡ out.old.items ++ spec.kinds (spec.name id.now ∷ [])) }
 {
     let text = Text::from_vec(Vec::from_slice(alloc, id.text.as_slice())?);
@@ -40,7 +44,11 @@ fn literal(alloc: Global, out: &mut Vec<TokenKind>, one: &Literal) -> Result<(),
     Ok(())
 }
 
-pub(super) fn literals(alloc: Global, out: &mut Vec<TokenKind>, all: &[Literal]) -> Result<(), Memory>
+pub(super) fn literals(
+    alloc: Global,
+    out: &mut Vec<TokenKind>,
+    all: &[Literal],
+) -> Result<(), Memory>
     ensures { OnOk result (out.new.items ≡ out.old.items ++ spec.kinds (spec.joined (map spec.literal_spelling all.now))) }
 {
     for one in all {
@@ -61,7 +69,11 @@ pub(super) fn comma_at(out: &mut Vec<TokenKind>, comma: &Option<Pos>) -> Result<
     }
 }
 
-pub(super) fn name_at(alloc: Global, out: &mut Vec<TokenKind>, name: &Option<Identifier>) -> Result<(), Memory>
+pub(super) fn name_at(
+    alloc: Global,
+    out: &mut Vec<TokenKind>,
+    name: &Option<Identifier>,
+) -> Result<(), Memory>
     ensures { OnOk result (out.new.items ≡ out.old.items ++ spec.kinds (spec.name_at name.now)) }
 {
     match name {

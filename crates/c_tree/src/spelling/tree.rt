@@ -24,7 +24,10 @@ pub(super) fn expr(alloc: Global, out: &mut Vec<TokenKind>, tree: &Expr) -> Resu
             Ok(())
         }
         Expr::Number(value, kind, _) => {
-            out.push(TokenKind::Number { value: *value, kind: *kind })?;
+            out.push(TokenKind::Number {
+                value: *value,
+                kind: *kind,
+            })?;
             Ok(())
         }
         Expr::Char(value, _) => {
@@ -201,7 +204,11 @@ fn type_name(alloc: Global, out: &mut Vec<TokenKind>, tree: &TypeName) -> Result
 }
 
 #[cycle(spelling)]
-pub(super) fn specifiers(alloc: Global, out: &mut Vec<TokenKind>, all: &[Specifier]) -> Result<(), Memory>
+pub(super) fn specifiers(
+    alloc: Global,
+    out: &mut Vec<TokenKind>,
+    all: &[Specifier],
+) -> Result<(), Memory>
     ensures { OnOk result (out.new.items ≡ out.old.items ++ kinds (joined (map spec.specifier_spelling all.now))) }
 {
     for one in all {
@@ -232,7 +239,11 @@ fn specifier(alloc: Global, out: &mut Vec<TokenKind>, tree: &Specifier) -> Resul
             identifier(alloc, out, tag)?;
             Ok(())
         }
-        Specifier::Struct { tag, members: all, .. } => {
+        Specifier::Struct {
+            tag,
+            members: all,
+            ..
+        } => {
             keyword(out, Keyword::Struct)?;
             name_at(alloc, out, tag)?;
             punct(out, Punct::LeftBrace)?;
@@ -245,7 +256,12 @@ fn specifier(alloc: Global, out: &mut Vec<TokenKind>, tree: &Specifier) -> Resul
             identifier(alloc, out, tag)?;
             Ok(())
         }
-        Specifier::Enum { tag, enumerators: all, comma, .. } => {
+        Specifier::Enum {
+            tag,
+            enumerators: all,
+            comma,
+            ..
+        } => {
             keyword(out, Keyword::Enum)?;
             name_at(alloc, out, tag)?;
             punct(out, Punct::LeftBrace)?;
@@ -274,7 +290,11 @@ fn members(alloc: Global, out: &mut Vec<TokenKind>, all: &[Member]) -> Result<()
 }
 
 #[cycle(spelling)]
-fn member_declarators(alloc: Global, out: &mut Vec<TokenKind>, all: &[MemberDeclarator]) -> Result<(), Memory>
+fn member_declarators(
+    alloc: Global,
+    out: &mut Vec<TokenKind>,
+    all: &[MemberDeclarator],
+) -> Result<(), Memory>
     ensures { OnOk result (out.new.items ≡ out.old.items ++ kinds (joined (map spec.member_declarator_spelling all.now))) }
 {
     for one in all {
@@ -315,7 +335,11 @@ fn enumerator(alloc: Global, out: &mut Vec<TokenKind>, tree: &Enumerator) -> Res
 }
 
 #[cycle(spelling)]
-pub(super) fn declarator(alloc: Global, out: &mut Vec<TokenKind>, tree: &Declarator) -> Result<(), Memory>
+pub(super) fn declarator(
+    alloc: Global,
+    out: &mut Vec<TokenKind>,
+    tree: &Declarator,
+) -> Result<(), Memory>
     ensures { OnOk result (out.new.items ≡ out.old.items ++ kinds (spec.declarator_spelling tree.now)) }
 {
     pointers(out, tree.pointers.as_slice())?;
@@ -344,7 +368,11 @@ fn direct(alloc: Global, out: &mut Vec<TokenKind>, tree: &Direct) -> Result<(), 
 }
 
 #[cycle(spelling)]
-fn declarator_suffixes(alloc: Global, out: &mut Vec<TokenKind>, all: &[DeclaratorSuffix]) -> Result<(), Memory>
+fn declarator_suffixes(
+    alloc: Global,
+    out: &mut Vec<TokenKind>,
+    all: &[DeclaratorSuffix],
+) -> Result<(), Memory>
     ensures { OnOk result (out.new.items ≡ out.old.items ++ kinds (joined (map spec.declarator_suffix_spelling all.now))) }
 {
     for one in all {
@@ -354,7 +382,11 @@ fn declarator_suffixes(alloc: Global, out: &mut Vec<TokenKind>, all: &[Declarato
 }
 
 #[cycle(spelling)]
-fn declarator_suffix(alloc: Global, out: &mut Vec<TokenKind>, tree: &DeclaratorSuffix) -> Result<(), Memory>
+fn declarator_suffix(
+    alloc: Global,
+    out: &mut Vec<TokenKind>,
+    tree: &DeclaratorSuffix,
+) -> Result<(), Memory>
     ensures { OnOk result (out.new.items ≡ out.old.items ++ kinds (spec.declarator_suffix_spelling tree.now)) }
 {
     match tree {
