@@ -8,6 +8,8 @@ mod refusal;
 mod specifier;
 mod spelling;
 mod statement;
+#[cfg(test)]
+mod tests;
 mod token;
 mod unit;
 
