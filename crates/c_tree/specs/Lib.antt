@@ -1,0 +1,5 @@
+pub mod Layers
+pub mod Spelling
+pub mod Levels
+pub mod Nesting
+pub mod Levelled
