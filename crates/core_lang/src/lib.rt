@@ -1,0 +1,8 @@
+//! Core code: the structured language between C and terms.
+#![tactic(auto)]
+
+mod act;
+mod program;
+
+pub use act::{Atom, Core, PointerOp};
+pub use program::{CoreFunction, Part, Program, Start, StaticObject};
