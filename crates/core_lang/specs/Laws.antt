@@ -1,3 +1,6 @@
 -- Laws of the definitions beside this file, by subject.
 pub mod Lists
 pub mod Clock
+pub mod Depth
+pub mod WellFormed
+pub mod Following

@@ -3,5 +3,8 @@ pub mod State
 pub mod Copying
 pub mod Acts
 pub mod Run
+pub mod Depth
+pub mod WellFormed
+pub mod Following
 pub mod Laws
 pub mod Examples

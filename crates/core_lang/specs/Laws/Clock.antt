@@ -23,7 +23,7 @@ use Rattle.core_lang.specs.Run.{calls, call_of, run_function, run_body, activati
 IsTimed-assign : (x : ℕ) (v : Option Value) (s : State) → IsTimed (assign x v s)
 IsTimed-assign x v s = IsTimed-given v (λ v w. Gives (assigned s x v) w Falls) (λ v. IsTimed-Gives (assigned s x v) Falls)
 
-IsTimed-assign_result : (x : Option ℕ) (v : Option Value) (s : State) → IsTimed (assign_result x v s)
+pub IsTimed-assign_result : (x : Option ℕ) (v : Option Value) (s : State) → IsTimed (assign_result x v s)
 IsTimed-assign_result None v s = IsTimed-Gives s Falls
 IsTimed-assign_result (Some x) v s = IsTimed-assign x v s
 
@@ -39,7 +39,7 @@ IsTimed-exit_value : (v : Value) (s : State) → IsTimed (exit_value v s)
 IsTimed-exit_value (Number n) s = IsTimed-exit n
 IsTimed-exit_value (Pointer r o) s = IsTimed-undefined
 
-IsTimed-behind : (f : Flow) (go : Does) (s : State) → IsTimed (go s) → IsTimed (behind f go s)
+pub IsTimed-behind : (f : Flow) (go : Does) (s : State) → IsTimed (go s) → IsTimed (behind f go s)
 IsTimed-behind Falls go s h = record { reaches = h.reaches; goes_on = h.goes_on }
 IsTimed-behind (Leaves k) go s h = IsTimed-Gives s (Leaves k)
 IsTimed-behind (Returned v) go s h = IsTimed-Gives s (Returned v)
