@@ -1,11 +1,12 @@
 -- When acts do in one state what they do in another (a notion of this project).
 use Rattle.std.specs.Prelude.{◌≡◌, List, [], ◌∷◌, Option}
 use Rattle.word_ops.specs.Store.{Value}
+use Rattle.word_ops.specs.Run.{Outside, Run, Gives, Ends, Undefined}
 use Rattle.core_lang.specs.declared.act.Atom.{Atom}
 use Rattle.core_lang.specs.declared.act.Core.{Core, Row_of-Core, end_of-Core, more_of-Core}
 use Rattle.core_lang.specs.declared.act.Core.TheVariants as c
 use Rattle.core_lang.specs.State.{State}
-use Rattle.core_lang.specs.Acts.{Flow, Falls, Leaves, Returned}
+use Rattle.core_lang.specs.Acts.{Flow, Falls, Leaves, Returned, Does}
 
 -- acts end in the same way, and what the function gives back stands in a relation
 abbrev pub FlowsAlike : (Option Value → Option Value → Type 0) → Flow → Flow → Type 0
@@ -41,3 +42,20 @@ abbrev mutual
 abbrev pub EachOf : (Core → Type 0) → (Atom → Type 0) → List Core → Type 0
 EachOf P Q [] = Unit {0}
 EachOf P Q (a ∷ rest) = EachAct P Q a × EachOf P Q rest
+
+-- ---- what acts keep
+
+-- what a run gives has a property
+abbrev pub OnGives : {S A : Type 0} → (S → A → Type 0) → Run S A → Type 0
+OnGives P (Gives s w a) = P s a
+OnGives P (Ends e w) = Unit {0}
+OnGives P Undefined = Unit {0}
+
+-- what a function gives back, where it does, has a property
+abbrev pub OnReturned : (Option Value → Type 0) → Flow → Type 0
+OnReturned W (Returned v) = W v
+OnReturned W _ = Unit {0}
+
+-- a way to act keeps a property of the state, and what is given back has one
+abbrev pub KeepsState : (State → Type 0) → (State → Option Value → Type 0) → Does → Type 0
+KeepsState I W go = (s : State) (w : Outside) → I s → OnGives (λ s f. I s × OnReturned (W s) f) (go s w)

@@ -4,3 +4,5 @@ pub mod Clock
 pub mod Depth
 pub mod WellFormed
 pub mod Following
+pub mod Keeping
+pub mod Regions
