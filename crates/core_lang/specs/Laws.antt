@@ -6,3 +6,4 @@ pub mod WellFormed
 pub mod Following
 pub mod Keeping
 pub mod Regions
+pub mod Addresses

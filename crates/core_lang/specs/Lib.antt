@@ -6,5 +6,6 @@ pub mod Run
 pub mod Depth
 pub mod WellFormed
 pub mod Following
+pub mod Addresses
 pub mod Laws
 pub mod Examples
