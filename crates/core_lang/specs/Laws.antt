@@ -7,3 +7,4 @@ pub mod Following
 pub mod Keeping
 pub mod Regions
 pub mod Addresses
+pub mod Statics

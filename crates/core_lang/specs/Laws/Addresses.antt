@@ -82,20 +82,20 @@ IsOptionIn-ends s first count (Some v) h = IsValueIn-ends s first count v h
 
 -- ---- cells
 
-cells_append : (s : Store) (cs ds : List Cell) → AreCellsIn s cs → AreCellsIn s ds → AreCellsIn s (cs ++ ds)
+pub cells_append : (s : Store) (cs ds : List Cell) → AreCellsIn s cs → AreCellsIn s ds → AreCellsIn s (cs ++ ds)
 cells_append s [] ds h k = k
 cells_append s (Unset ∷ cs) ds h k = cells_append s cs ds h k
 cells_append s (Byte b ∷ cs) ds h k = cells_append s cs ds h k
 cells_append s (Part j r o ∷ cs) ds h k = (h.0, cells_append s cs ds h.1 k)
 
-cells_take : (s : Store) (n : ℕ) (cs : List Cell) → AreCellsIn s cs → AreCellsIn s (take n cs)
+pub cells_take : (s : Store) (n : ℕ) (cs : List Cell) → AreCellsIn s cs → AreCellsIn s (take n cs)
 cells_take s zero cs h = tt
 cells_take s (suc n) [] h = tt
 cells_take s (suc n) (Unset ∷ cs) h = cells_take s n cs h
 cells_take s (suc n) (Byte b ∷ cs) h = cells_take s n cs h
 cells_take s (suc n) (Part j r o ∷ cs) h = (h.0, cells_take s n cs h.1)
 
-cells_drop : (s : Store) (n : ℕ) (cs : List Cell) → AreCellsIn s cs → AreCellsIn s (drop n cs)
+pub cells_drop : (s : Store) (n : ℕ) (cs : List Cell) → AreCellsIn s cs → AreCellsIn s (drop n cs)
 cells_drop s zero cs h = h
 cells_drop s (suc n) [] h = tt
 cells_drop s (suc n) (Unset ∷ cs) h = cells_drop s n cs h
