@@ -8,3 +8,4 @@ pub mod Keeping
 pub mod Regions
 pub mod Addresses
 pub mod Statics
+pub mod Layouts
