@@ -9,3 +9,4 @@ pub mod Regions
 pub mod Addresses
 pub mod Statics
 pub mod Layouts
+pub mod Outcomes
