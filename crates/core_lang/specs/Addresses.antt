@@ -3,10 +3,12 @@
 use Rattle.std.specs.Prelude.{◌≡◌, ◌≢◌, ℕ, ◌+◌, ◌*◌, ◌^◌, ◌<◌, ◌≤◌, ◌⊎◌, true, List, [], ◌∷◌, length, Option, Some, None, slice_get}
 use Rattle.word_ops.specs.Store.{Value, Store, Shape, shape_at}
 use Rattle.word_ops.specs.Addresses.{IsValueIn, IsAddressed}
+use Rattle.word_ops.specs.Changes.{SameRegions}
 use Rattle.core_lang.specs.declared.program.CoreFunction.{CoreFunction}
 use Rattle.core_lang.specs.declared.program.Program.{Program}
 use Rattle.core_lang.specs.declared.program.StaticObject.{StaticObject}
 use Rattle.core_lang.specs.Layout.{Layout}
+use Rattle.core_lang.specs.State.{State}
 use Rattle.core_lang.specs.Acts.{Invocation}
 
 -- at least 8 bytes lie between an object of n bytes and one of m
@@ -51,6 +53,21 @@ AreValuesIn s (v ∷ vs) = IsValueIn s v × AreValuesIn s vs
 abbrev pub IsOptionIn : Store → Option Value → Type 0
 IsOptionIn s None = Unit {0}
 IsOptionIn s (Some v) = IsValueIn s v
+
+-- the states that a function has from its beginning on, at which there was the first store: addressed, each value one of the
+-- store, with the regions that there were at the beginning, and no others live
+pub record IsSound (start : Store) (s : State) : Type 0 where
+  pub addressed : IsAddressed s.store
+  pub values : (x : ℕ) → IsValueIn s.store (s.vars x)
+  pub regions : SameRegions start s.store
+  pub live : NoneLiveBehind start s.store
+
+-- the same of what a call gives
+pub record KeepsAddresses (start t : Store) (v : Option Value) : Type 0 where
+  pub addressed : IsAddressed t
+  pub value : IsOptionIn t v
+  pub regions : SameRegions start t
+  pub live : NoneLiveBehind start t
 
 -- a call that may be made, with so many more nested in it, itself counted
 pub record IsCallable (p : Program) (bottom largest depth : ℕ) (c : Invocation) : Type 0 where

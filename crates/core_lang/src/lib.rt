@@ -2,6 +2,7 @@
 #![tactic(auto)]
 
 mod act;
+pub mod laws;
 mod program;
 
 pub use act::{Atom, Core, PointerOp};

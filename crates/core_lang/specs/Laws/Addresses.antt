@@ -35,7 +35,7 @@ use Rattle.core_lang.specs.Acts.{Invocation, Calls, Flow, Falls, Leaves, Returne
 use Rattle.core_lang.specs.Run.{local_regions, frame_of, activation_of, first_state, value_given_back, run_body, run_function, calls}
 use Rattle.core_lang.specs.Following.{IsPlainAct, EachAct, EachInRow, EachOf, OnGives, OnReturned, KeepsState}
 use Rattle.core_lang.specs.WellFormed.{targets, IsAtomIn, AreAtomsIn, IsActIn, IsRowIn, AreActsIn, IsFunctionIn, IsWellFormed}
-use Rattle.core_lang.specs.Addresses.{LieApart, IsLayoutOf, IsFree, NoneLiveBehind, AreValuesIn, IsOptionIn, IsCallable}
+use Rattle.core_lang.specs.Addresses.{LieApart, IsLayoutOf, IsFree, NoneLiveBehind, AreValuesIn, IsOptionIn, IsSound, KeepsAddresses, IsCallable}
 use Rattle.core_lang.specs.Laws.Keeping.{OnGives-then, OnGives-given, OnGives-tick, OnGives-more, acts-keep}
 use Rattle.core_lang.specs.Laws.Regions.{copied-some, copied-shapes, OnGives-branch}
 
@@ -212,15 +212,6 @@ module _ (l : Layout) (p : Program) (deepest : ℕ) (layout : IsLayoutOf l p dee
       let r : layout.bottom + (depth * layout.largest + layout.largest) ≤ i.stack = subst (λ n. layout.bottom + n ≤ i.stack) (suc-mul depth layout.largest) callable.room in
       (omega (arith, f, r), omega (arith, f, r))
 
-  -- the stores that the called function has from its beginning on: addressed, with the regions that there were then, and
-  -- no others live
-  abbrev pub IsSound : (start : Store) → State → Type 0
-  IsSound start s =
-      IsAddressed s.store × ((x : ℕ) → IsValueIn s.store (s.vars x)) × SameRegions start s.store × NoneLiveBehind start s.store
-
-  abbrev pub Gives-sound : (start : Store) → Store → Option Value → Type 0
-  Gives-sound start t v = IsAddressed t × IsOptionIn t v × SameRegions start t × NoneLiveBehind start t
-
   module _ (depth : ℕ) (i : Invocation) (g : CoreFunction) (there : slice_get p.functions i.function ≡ Some g) (callable : IsCallable p layout.bottom layout.largest (suc depth) i) where
     -- each local object lies between the frame's beginning and its end
     local_is : (x : ℕ) (z : Shape) → shape_at (local_regions (λ k. frame_of l i + l.local i.function k) 0 g.locals) x ≡ Some z →
@@ -257,9 +248,9 @@ module _ (l : Layout) (p : Program) (deepest : ℕ) (layout : IsLayoutOf l p dee
           subst (λ (k : Region). AreCellsIn (i.store ++ locals) k.cells) (sym h.2) (AreCellsIn-replicate (i.store ++ locals) h.0 Unset tt);
     }
 
-    first_sound : IsSound first.store first
+    pub first_sound : IsSound first.store first
     first_sound =
-        (IsAddressed-append i.store locals locals_new callable.addressed, λ x. IsValueIn-same i.store (i.store ++ locals) (argument i.arguments x) (SameRegions-append i.store locals) (argument_in i.store i.arguments x callable.arguments), SameRegions-refl first.store, λ r z e live. e)
+        record { addressed = IsAddressed-append i.store locals locals_new callable.addressed; values = λ x. IsValueIn-same i.store (i.store ++ locals) (argument i.arguments x) (SameRegions-append i.store locals) (argument_in i.store i.arguments x callable.arguments); regions = SameRegions-refl first.store; live = λ r z e live. e }
 
     -- a region of the first store was there before, or is a local object
     where_first : (r : ℕ) (z : Shape) → shape_at first.store r ≡ Some z →
@@ -277,33 +268,33 @@ module _ (l : Layout) (p : Program) (deepest : ℕ) (layout : IsLayoutOf l p dee
 
     -- ---- the called function ends
 
-    ends_sound : (s : State) (v : Option Value) → IsSound first.store s → IsOptionIn s.store v →
-        Gives-sound i.store (end_regions s.store (length i.store) (length g.locals)) v
+    pub ends_sound : (s : State) (v : Option Value) → IsSound first.store s → IsOptionIn s.store v →
+        KeepsAddresses i.store (end_regions s.store (length i.store) (length g.locals)) v
     ends_sound s v h k =
-        (IsAddressed-ends s.store (length i.store) (length g.locals) h.0, IsOptionIn-ends s.store (length i.store) (length g.locals) v k, SameRegions-ends i.store s.store (length i.store) (length g.locals) (omega arith) (SameRegions-trans i.store first.store s.store (SameRegions-append i.store locals) h.2), none)
+        record { addressed = IsAddressed-ends s.store (length i.store) (length g.locals) h.addressed; value = IsOptionIn-ends s.store (length i.store) (length g.locals) v k; regions = SameRegions-ends i.store s.store (length i.store) (length g.locals) (omega arith) (SameRegions-trans i.store first.store s.store (SameRegions-append i.store locals) h.regions); live = none }
       where
         none : NoneLiveBehind i.store (end_regions s.store (length i.store) (length g.locals))
         none r z e live =
             let x = shape_at-some (end_regions s.store (length i.store) (length g.locals)) r z e in
             let m = end_regions-live s.store (length i.store) (length g.locals) r x.0 x.1 (ap (λ (z : Shape). z.live) x.2 ∙ live) in
-            ⊎_elim (λ a. a) (λ b. absurd (m.0 (omega (arith, b.1)) (omega (arith, b.1, b.2)))) (where_first r z (h.3 r z (shape_at-region s.store r x.0 m.1 ∙ ap Some x.2) live))
+            ⊎_elim (λ a. a) (λ b. absurd (m.0 (omega (arith, b.1)) (omega (arith, b.1, b.2)))) (where_first r z (h.live r z (shape_at-region s.store r x.0 m.1 ∙ ap Some x.2) live))
 
     -- ---- a call that the function makes
 
-    free_below : (s : State) → IsSound first.store s → IsFree layout.bottom (frame_of l i) s.store
+    pub free_below : (s : State) → IsSound first.store s → IsFree layout.bottom (frame_of l i) s.store
     free_below s h r z e live =
         ⊎_elim
         (λ a. ⊎_elim (λ k. inl k) (λ k. inr (omega (arith, k, below_stack))) (callable.free r z a live))
         (λ b. inr (omega (arith, (local_is b.0 z b.3).3)))
-        (where_first r z (h.3 r z e live))
+        (where_first r z (h.live r z e live))
 
     state_length : (s : State) → IsSound first.store s → length i.store + length g.locals ≤ length s.store
-    state_length s h = omega (arith, first_length, SameRegions-length first.store s.store h.2)
+    state_length s h = omega (arith, first_length, SameRegions-length first.store s.store h.regions)
 
-    callee : (s : State) (f : ℕ) (vs : List Value) → IsSound first.store s → AreValuesIn s.store vs →
+    pub callee : (s : State) (f : ℕ) (vs : List Value) → IsSound first.store s → AreValuesIn s.store vs →
         IsCallable p layout.bottom layout.largest depth (record { function = f; arguments = vs; stack = frame_of l i; store = s.store })
     callee s f vs h k = record {
-      addressed = h.0;
+      addressed = h.addressed;
       arguments = k;
       static = omega (arith, callable.static, state_length s h);
       free = free_below s h;
@@ -316,9 +307,9 @@ module _ (l : Layout) (p : Program) (deepest : ℕ) (layout : IsLayoutOf l p dee
     abbrev here : Activation
     here = activation_of l i
 
-    atom_in : (s : State) (ts : List ℕ) (v : Atom) → IsSound first.store s → IsAtomIn p g ts v →
+    pub atom_in : (s : State) (ts : List ℕ) (v : Atom) → IsSound first.store s → IsAtomIn p g ts v →
         IsValueIn s.store (value_of_atom here s v)
-    atom_in s ts (at.Var x) h k = h.1 x
+    atom_in s ts (at.Var x) h k = h.values x
     atom_in s ts (at.Word n) h k = k
     atom_in s ts (at.Global x) h k = start_in s.store x (omega (arith, k, callable.static, state_length s h))
     atom_in s ts (at.Local x) h k = start_in s.store (length i.store + x) (omega (arith, k, state_length s h))
@@ -334,10 +325,10 @@ module _ (l : Layout) (p : Program) (deepest : ℕ) (layout : IsLayoutOf l p dee
 
     assigned_sound : (x : ℕ) (v : Value) (s : State) → IsSound first.store s → IsValueIn s.store v →
         IsSound first.store (assigned s x v)
-    assigned_sound x v s h k = (h.0, vars, h.2, h.3)
+    assigned_sound x v s h k = record { addressed = h.addressed; values = vars; regions = h.regions; live = h.live }
       where
         vars : (y : ℕ) → IsValueIn s.store (if y == x then v else s.vars y)
-        vars y = elim (y == x) as (λ b. IsValueIn s.store (if b then v else s.vars y)) [ true ↦ k | false ↦ h.1 y ]
+        vars y = elim (y == x) as (λ b. IsValueIn s.store (if b then v else s.vars y)) [ true ↦ k | false ↦ h.values y ]
 
     assign_sound : (x : ℕ) (o : Option Value) (s : State) (w : Outside) → IsSound first.store s →
         ((v : Value) → o ≡ Some v → IsValueIn s.store v) → OnGives After (assign x o s w)
@@ -353,17 +344,17 @@ module _ (l : Layout) (p : Program) (deepest : ℕ) (layout : IsLayoutOf l p dee
     stored_sound : (t : Store) (s : State) → IsSound first.store s → SameShapes s.store t → IsAddressed t →
         IsSound first.store (record s { store = t })
     stored_sound t s h k a =
-        (a, λ x. IsValueIn-same s.store t (s.vars x) (SameShapes-regions s.store t k) (h.1 x), SameRegions-trans first.store s.store t h.2 (SameShapes-regions s.store t k), λ r z q live. h.3 r z (sym (k r) ∙ q) live)
+        record { addressed = a; values = λ x. IsValueIn-same s.store t (s.vars x) (SameShapes-regions s.store t k) (h.values x); regions = SameRegions-trans first.store s.store t h.regions (SameShapes-regions s.store t k); live = λ r z q live. h.live r z (sym (k r) ∙ q) live }
 
     with_store_sound : (o : Option Store) (s : State) (w : Outside) → IsSound first.store s →
         ((t : Store) → o ≡ Some t → SameShapes s.store t × IsAddressed t) → OnGives After (with_store o s w)
     with_store_sound o s w h k =
         OnGives-given After o (λ t. Gives (record s { store = t }) w Falls) (λ t q. (stored_sound t s h (k t q).0 (k t q).1, tt))
 
-    called_sound : (t : Store) (v : Option Value) (s : State) → IsSound first.store s → Gives-sound s.store t v →
+    called_sound : (t : Store) (v : Option Value) (s : State) → IsSound first.store s → KeepsAddresses s.store t v →
         IsSound first.store (record s { store = t })
     called_sound t v s h m =
-        (m.0, λ x. IsValueIn-same s.store t (s.vars x) m.2 (h.1 x), SameRegions-trans first.store s.store t h.2 m.2, λ r z q live. h.3 r z (m.3 r z q live) live)
+        record { addressed = m.addressed; values = λ x. IsValueIn-same s.store t (s.vars x) m.regions (h.values x); regions = SameRegions-trans first.store s.store t h.regions m.regions; live = λ r z q live. h.live r z (m.live r z q live) live }
 
     put_sound : (v : Value) (s : State) (w : Outside) → IsSound first.store s → OnGives After (put_value v s w)
     put_sound (Number n) s w h = OnGives-tick After _ (λ w. Gives s w Falls) (λ u. (h, tt))
@@ -376,8 +367,8 @@ module _ (l : Layout) (p : Program) (deepest : ℕ) (layout : IsLayoutOf l p dee
     next_word_small : (xs : List ℕ) → next_word xs < 2 ^ 32
     next_word_small xs = ⊎_elim (λ a. omega (arith, a)) (λ b. omega (arith, b)) (next_word-in xs)
 
-    module _ (call : Calls) (sound : (i : Invocation) (w : Outside) → IsCallable p layout.bottom layout.largest depth i → OnGives (Gives-sound i.store) (call i w)) where
-      plain_sound : (a : Core) → IsPlainAct a → IsFormed p g a →
+    module _ (call : Calls) (sound : (i : Invocation) (w : Outside) → IsCallable p layout.bottom layout.largest depth i → OnGives (KeepsAddresses i.store) (call i w)) where
+      pub plain_sound : (a : Core) → IsPlainAct a → IsFormed p g a →
           KeepsState (IsSound first.store) (λ s v. IsOptionIn s.store v) (act call here a)
       plain_sound (c.Move x v) q f s w h =
           (assigned_sound x (value_of_atom here s v) s h (atom_in s f.1 v h f.2.1), tt)
@@ -386,18 +377,18 @@ module _ (l : Layout) (p : Program) (deepest : ℕ) (layout : IsLayoutOf l p dee
       plain_sound (c.Pointer x op u v) q f s w h =
           assign_sound x (value_of_pointers s.store op (value_of_atom here s u) (value_of_atom here s v)) s w h (λ y d. pointers_in s.store op (value_of_atom here s u) (value_of_atom here s v) y (atom_in s f.1 u h f.2.1) (atom_in s f.1 v h f.2.2) d)
       plain_sound (c.Load x k v) q f s w h =
-          assign_sound x (load s.store k (value_of_atom here s v)) s w h (λ y d. load-in s.store k (value_of_atom here s v) y h.0 d)
+          assign_sound x (load s.store k (value_of_atom here s v)) s w h (λ y d. load-in s.store k (value_of_atom here s v) y h.addressed d)
       plain_sound (c.Store k u v) q f s w h =
-          with_store_sound (write s.store k (value_of_atom here s u) (value_of_atom here s v)) s w h (λ t d. (write-shapes s.store t k (value_of_atom here s u) (value_of_atom here s v) d, IsAddressed-write s.store t k (value_of_atom here s u) (value_of_atom here s v) d (atom_in s f.1 v h f.2.1) h.0))
+          with_store_sound (write s.store k (value_of_atom here s u) (value_of_atom here s v)) s w h (λ t d. (write-shapes s.store t k (value_of_atom here s u) (value_of_atom here s v) d, IsAddressed-write s.store t k (value_of_atom here s u) (value_of_atom here s v) d (atom_in s f.1 v h f.2.1) h.addressed))
       plain_sound (c.Enter x) q f s w h =
-          (stored_sound (refill_region s.store (length i.store + x) Unset) s h (refill_region-shapes s.store (length i.store + x) Unset) (IsAddressed-refill s.store (length i.store + x) Unset tt h.0), tt)
+          (stored_sound (refill_region s.store (length i.store + x) Unset) s h (refill_region-shapes s.store (length i.store + x) Unset) (IsAddressed-refill s.store (length i.store + x) Unset tt h.addressed), tt)
       plain_sound (c.Fill x) q f s w h =
-          (stored_sound (refill_region s.store (length i.store + x) (Byte 0)) s h (refill_region-shapes s.store (length i.store + x) (Byte 0)) (IsAddressed-refill s.store (length i.store + x) (Byte 0) tt h.0), tt)
+          (stored_sound (refill_region s.store (length i.store + x) (Byte 0)) s h (refill_region-shapes s.store (length i.store + x) (Byte 0)) (IsAddressed-refill s.store (length i.store + x) (Byte 0) tt h.addressed), tt)
       plain_sound (c.Copy u v n k) q f s w h =
-          with_store_sound (copied s.store (value_of_atom here s u) (value_of_atom here s v) n k) s w h (λ t d. (copied-shapes s.store t (value_of_atom here s u) (value_of_atom here s v) n k d, IsAddressed-copied s.store t (value_of_atom here s u) (value_of_atom here s v) n k d h.0))
+          with_store_sound (copied s.store (value_of_atom here s u) (value_of_atom here s v) n k) s w h (λ t d. (copied-shapes s.store t (value_of_atom here s u) (value_of_atom here s v) n k d, IsAddressed-copied s.store t (value_of_atom here s u) (value_of_atom here s v) n k d h.addressed))
       plain_sound (c.Call x f vs) q m s w h =
           let j : Invocation = record { function = f; arguments = values_of_atoms here s vs; stack = here.stack; store = s.store } in
-          OnGives-tick After w _ (λ w. OnGives-then (Gives-sound s.store) After (call j w) _ (sound j w (callee s f (values_of_atoms here s vs) h (atoms_in s m.1 vs h m.2.2))) (λ t w v y. result_sound x v (record s { store = t }) w (called_sound t v s h y) y.1))
+          OnGives-tick After w _ (λ w. OnGives-then (KeepsAddresses s.store) After (call j w) _ (sound j w (callee s f (values_of_atoms here s vs) h (atoms_in s m.1 vs h m.2.2))) (λ t w v y. result_sound x v (record s { store = t }) w (called_sound t v s h y) y.value))
       plain_sound (c.Get x) q f s w h =
           OnGives-tick After _ (λ u. Gives (assigned s x (Number (next_word w.input))) u Falls) (λ u. (assigned_sound x (Number (next_word w.input)) s h (next_word_small w.input), tt))
       plain_sound (c.Put v) q f s w h = put_sound (value_of_atom here s v) s w h
@@ -414,13 +405,19 @@ module _ (l : Layout) (p : Program) (deepest : ℕ) (layout : IsLayoutOf l p dee
       given_back s (Leaves k) h = tt
       given_back s (Returned v) h = h
 
-      body_sound : (w : Outside) → OnGives (Gives-sound i.store) (run_body l call i g w)
+      -- acts of the function that are well formed keep all this
+      pub acts-sound : (k : ℕ) (ts : List ℕ) (xs : List Core) → AreActsIn p g k ts xs →
+          KeepsState (IsSound first.store) (λ s v. IsOptionIn s.store v) (acts call here xs)
+      acts-sound k ts xs h =
+          acts-keep (IsSound first.store) (λ s v. IsOptionIn s.store v) call here (IsFormed p g) (IsFormedAtom p g) plain_sound xs (AreActsIn-each p g k ts xs h)
+
+      body_sound : (w : Outside) → OnGives (KeepsAddresses i.store) (run_body l call i g w)
       body_sound w =
-          OnGives-then After (Gives-sound i.store) (acts call here g.body first w) _ (acts-keep (IsSound first.store) (λ s v. IsOptionIn s.store v) call here (IsFormed p g) (IsFormedAtom p g) plain_sound g.body (AreActsIn-each p g 0 [] g.body (formed.functions i.function g there).body) first w first_sound) (λ s w f h. ends_sound s (value_given_back f) h.0 (given_back s f h.1))
+          OnGives-then After (KeepsAddresses i.store) (acts call here g.body first w) _ (acts-sound 0 [] g.body (formed.functions i.function g there).body first w first_sound) (λ s w f h. ends_sound s (value_given_back f) h.0 (given_back s f h.1))
 
   -- a call that may be made keeps addresses, gives a value of the store, and leaves no further region live
   pub calls-sound : (depth : ℕ) (i : Invocation) (w : Outside) → IsCallable p layout.bottom layout.largest depth i →
-      OnGives (Gives-sound i.store) (calls l p.functions depth i w)
+      OnGives (KeepsAddresses i.store) (calls l p.functions depth i w)
   calls-sound zero i w h = tt
   calls-sound (suc depth) i w h =
-      OnGives-given (Gives-sound i.store) (slice_get p.functions i.function) _ (λ g q. OnGives-branch (Gives-sound i.store) (length i.arguments == g.params) _ _ i.store w (λ y. body_sound depth i g q h (calls l p.functions depth) (calls-sound depth) w) (λ y. tt))
+      OnGives-given (KeepsAddresses i.store) (slice_get p.functions i.function) _ (λ g q. OnGives-branch (KeepsAddresses i.store) (length i.arguments == g.params) _ _ i.store w (λ y. body_sound depth i g q h (calls l p.functions depth) (calls-sound depth) w) (λ y. tt))

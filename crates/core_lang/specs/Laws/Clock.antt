@@ -5,9 +5,9 @@ use Rattle.std.specs.Prelude.{Option, Some, None, List, [], ◌∷◌, length, �
 use Rattle.word_ops.specs.Store.{Value, Number, Pointer, Store, Unset, Byte, refill_region}
 use Rattle.word_ops.specs.Access.{load, write}
 use Rattle.word_ops.specs.Values.{value_of_operation, truth}
-use Rattle.word_ops.specs.Run.{Outside, Run, Gives, Ends, Undefined, then_do, given}
+use Rattle.word_ops.specs.Run.{Outside, Run, Gives, Ends, Undefined, then_do, given, after_turn}
 use Rattle.word_ops.specs.Clock.{IsTimed}
-use Rattle.word_ops.specs.Laws.Clock.{IsTimed-Gives, IsTimed-exit, IsTimed-undefined, IsTimed-given, IsTimed-branch, IsTimed-then, IsTimed-tick, IsTimed-put_byte, IsTimed-get_byte, IsTimed-loop, IsTimed-nested, IsTimed-main}
+use Rattle.word_ops.specs.Laws.Clock.{IsTimed-Gives, IsTimed-exit, IsTimed-undefined, IsTimed-given, IsTimed-branch, IsTimed-then, IsTimed-tick, IsTimed-put_byte, IsTimed-get_byte, IsTimed-loop, loop-first, IsTimed-nested, IsTimed-main}
 use Rattle.core_lang.specs.declared.act.Core.{Core, Row_of-Core, end_of-Core, more_of-Core}
 use Rattle.core_lang.specs.declared.act.Core.TheVariants as c
 use Rattle.core_lang.specs.declared.program.CoreFunction.{CoreFunction}
@@ -103,6 +103,12 @@ module _ (call : Calls) (timed : (c : Invocation) → IsTimed (call c)) where
   pub IsTimed-acts : (e : Activation) (xs : List Core) (s : State) → IsTimed (acts call e xs s)
   IsTimed-acts e [] s = IsTimed-Gives s Falls
   IsTimed-acts e (a ∷ xs) s = IsTimed-in_turn (act call e a) (acts call e xs) (IsTimed-act e a) (IsTimed-acts e xs) s
+
+-- a loop is its first iteration, and behind a tick the loop
+pub as_loop-first : (f : Does) → ((s : State) → IsTimed (f s)) → (s : State) (w : Outside) →
+    as_loop f s w ≡ then_do (turn_of f s w) (λ s w t. after_turn t (as_loop f s) s w)
+as_loop-first f h s w =
+    loop-first (turn_of f) (λ s. IsTimed-then (f s) (λ s w d. Gives s w (out_of_turn d)) (h s) (λ s d. IsTimed-Gives s (out_of_turn d))) s w
 
 -- ---- calls and programs
 

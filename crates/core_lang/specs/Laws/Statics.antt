@@ -20,9 +20,9 @@ use Rattle.core_lang.specs.declared.program.StaticObject.{StaticObject}
 use Rattle.core_lang.specs.Layout.{Layout}
 use Rattle.core_lang.specs.Run.{cells_of_start, with_parts, static_region, static_regions, first_call, calls}
 use Rattle.core_lang.specs.WellFormed.{bytes_of_start, IsPlaceIn, IsStartIn, ArePartsIn, IsWellFormed}
-use Rattle.core_lang.specs.Addresses.{LieApart, IsLayoutOf, IsFree, IsCallable}
+use Rattle.core_lang.specs.Addresses.{LieApart, IsLayoutOf, IsFree, KeepsAddresses, IsCallable}
 use Rattle.core_lang.specs.Following.{OnGives}
-use Rattle.core_lang.specs.Laws.Addresses.{cells_append, cells_take, cells_drop, Gives-sound, calls-sound}
+use Rattle.core_lang.specs.Laws.Addresses.{cells_append, cells_take, cells_drop, calls-sound}
 
 -- ---- the regions
 
@@ -134,5 +134,5 @@ module _ (l : Layout) (p : Program) (depth : ℕ) (layout : IsLayoutOf l p depth
     top = layout.top;
   }
 
-  pub main-sound : (w : Outside) → OnGives (Gives-sound l p depth layout formed store) (calls l p.functions depth (first_call l p) w)
+  pub main-sound : (w : Outside) → OnGives (KeepsAddresses store) (calls l p.functions depth (first_call l p) w)
   main-sound w = calls-sound l p depth layout formed depth (first_call l p) w main-callable
