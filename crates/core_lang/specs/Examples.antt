@@ -17,7 +17,7 @@ use Rattle.core_lang.specs.Layout.{Layout}
 use Rattle.core_lang.specs.Run.{run_of_core}
 
 -- what a computed example opens
-computed : Type 0
+unfoldable pub computed : Type 0
 unfolding Rattle.core_lang.specs.declared.act.Core.TheBlock.hidden-the_row-Core-0 denote.Hole.Carrier.hidden
 computed = Unit {0}
 
@@ -28,23 +28,23 @@ abbrev pub spacious : Layout
 spacious = record { static = λ x. 65536 + 64 * x; top = 1048576; frame = λ f. 64; local = λ f x. 16 * x }
 
 -- int down(int n) { if (n) return down(n - 1); return 7; }
-pub down : CoreFunction
+unfoldable pub down : CoreFunction
 down = record { params = 1; vars = 1; temps = 2; locals = []; body = c.If (at.Var 0) (c.Operate 1 op.Subs (at.Var 0) (at.Word 1) ∷ c.Call (Some 2) 1 (at.Var 1 ∷ []) ∷ c.Return (Some (at.Var 2)) ∷ []) [] ∷ c.Return (Some (at.Word 7)) ∷ []; returns = true; size = 0; object_bytes = 0 }
 
 -- int *own(void) { int x = 7; return &x; }
-pub own : CoreFunction
+unfoldable pub own : CoreFunction
 own = record { params = 0; vars = 0; temps = 0; locals = 4 ∷ []; body = c.Enter 0 ∷ c.Store width.Word (at.Local 0) (at.Word 7) ∷ c.Return (Some (at.Local 0)) ∷ []; returns = true; size = 0; object_bytes = 16 }
 
 -- void swap(int *p, int *q) { int t = *p; *p = *q; *q = t; }
-pub swap : CoreFunction
+unfoldable pub swap : CoreFunction
 swap = record { params = 2; vars = 2; temps = 2; locals = []; body = c.Load 2 width.Word (at.Var 0) ∷ c.Load 3 width.Word (at.Var 1) ∷ c.Store width.Word (at.Var 0) (at.Var 3) ∷ c.Store width.Word (at.Var 1) (at.Var 2) ∷ []; returns = false; size = 0; object_bytes = 0 }
 
 -- the string "hi", and int *table[2] whose second pointer leads to the first object's second byte
-pub objects : List StaticObject
+unfoldable pub objects : List StaticObject
 objects = record { size = 3; constant = true; parts = record { offset = 0; word = st.Byte 104 } ∷ record { offset = 1; word = st.Byte 105 } ∷ [] } ∷ record { size = 8; constant = false; parts = record { offset = 4; word = st.Address 0 1 } ∷ [] } ∷ []
 
 -- main has 4 variables, 8 temporaries, and two objects of 8 bytes and one of 4; down is function 1, own 2, swap 3
-pub program : List Core → Program
+unfoldable pub program : List Core → Program
 program body = record { functions = record { params = 0; vars = 4; temps = 8; locals = 8 ∷ 8 ∷ 4 ∷ []; body = body; returns = true; size = 0; object_bytes = 0 } ∷ down ∷ own ∷ swap ∷ []; objects = objects; main = 0 }
 
 -- the outcome of a body of main on an input, with a depth and a clock
@@ -65,7 +65,7 @@ then_nine = c.Exit (at.Word 9) ∷ []
 -- ---- loops, blocks and breaks
 
 -- s = 0; i = 0; while (i < 10) { s = s + i; i = i + 1; } return s;
-pub sum : List Core
+unfoldable pub sum : List Core
 sum = c.Move 0 (at.Word 0) ∷ c.Move 1 (at.Word 0) ∷ c.Loop (c.Operate 4 op.Lts (at.Var 1) (at.Word 10) ∷ c.If (at.Var 4) (c.Operate 5 op.Adds (at.Var 0) (at.Var 1) ∷ c.Move 0 (at.Var 5) ∷ c.Operate 6 op.Adds (at.Var 1) (at.Word 1) ∷ c.Move 1 (at.Var 6) ∷ []) (c.Break 0 ∷ []) ∷ []) ∷ c.Return (Some (at.Var 0)) ∷ []
 
 -- a tick before each iteration but the first, of which there are 11

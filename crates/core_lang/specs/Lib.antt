@@ -9,3 +9,4 @@ pub mod Following
 pub mod Addresses
 pub mod Laws
 pub mod Examples
+pub mod Instances

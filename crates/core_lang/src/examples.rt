@@ -1,8 +1,13 @@
 //! Examples, each computed from the definitions alone. The functions do nothing: each is here for what its contract
 //! says. The programs stand in `specs/Examples`, each beside the C that it stands for.
-ghost use Rattle.std.specs.Prelude.{◌≡◌, [], ◌∷◌};
+ghost use Rattle.std.specs.Prelude.{◌≡◌, ℕ, ◌≤◌, [], ◌∷◌};
 ghost use Rattle.word_ops.specs.Run.{End};
-ghost use Rattle.core_lang.specs.Examples.{adds, breaks, compares, copies, copies_bytes, copies_on, divides, drops_nothing, echoes, ends, enters_other, enters_twice, falls, fills, follows_table, forever, is_null, keeps_dead, moves, nested_loops, outcome, puts_and_exits, puts_pointer, reads_dead, reads_new, reads_string, recursion, returns_large, shifts, starts_as_zero, sum, swapped, swaps, through_null, undefined, uses_nothing, writes_string, writes_table};
+ghost use Rattle.core_lang.specs.declared.program.CoreFunction.{CoreFunction};
+ghost use Rattle.core_lang.specs.declared.program.Program.{Program};
+ghost use Rattle.core_lang.specs.WellFormed.{AreActsIn, places_in, IsUnits, IsWellFormed};
+ghost use Rattle.core_lang.specs.Addresses.{IsLayoutOf};
+ghost use Rattle.core_lang.specs.Examples.{adds, breaks, compares, copies, copies_bytes, copies_on, divides, drops_nothing, echoes, ends, enters_other, enters_twice, falls, fills, follows_table, forever, is_null, keeps_dead, moves, nested_loops, outcome, program, puts_and_exits, puts_pointer, reads_dead, reads_new, reads_string, recursion, returns_large, shifts, spacious, starts_as_zero, sum, swapped, swaps, through_null, undefined, uses_nothing, writes_string, writes_table};
+ghost use Rattle.core_lang.specs.Instances.{behind_branch, in_branch, in_both, out_of_one, out_of_two};
 
 /// Loops, blocks and breaks: where a loop ends, what a clock cuts, and what a break leaves.
 pub fn loops_and_breaks()
@@ -85,4 +90,19 @@ pub fn input_and_output()
     ensures low_status { outcome returns_large [] 1 100 ≡ ends (End.Exit 44) [] 0 0 }
     ensures puts_no_pointer { outcome puts_pointer [] 1 100 ≡ undefined }
     ensures starts_as_zero_ends { outcome starts_as_zero [] 1 0 ≡ ends (End.Exit 0) [] 0 0 }
+{}
+
+/// Well-formed programs: one of the examples is well formed, and its layout keeps its objects apart while no more than
+/// 200 calls are nested; acts that are not well formed stand beside neighbours that are.
+pub fn well_formed_programs()
+    ensures formed { IsWellFormed (program sum) }
+    ensures laid_out { IsLayoutOf spacious (program sum) 200 }
+    ensures behind_a_branch { (p : Program) (g : CoreFunction) → g.vars ≡ 4 → AreActsIn p g 0 [] behind_branch → ⊥ }
+    ensures in_a_branch { (p : Program) (g : CoreFunction) → g.vars ≡ 4 → g.temps ≡ 8 → AreActsIn p g 0 [] in_branch }
+    ensures temporary_in_both { places_in 4 (in_both 4) ≡ 2 }
+    ensures variable_in_both { (x : ℕ) → 4 ≤ x → places_in x (in_both 3) ≤ 1 }
+    ensures break_out_of_one { (p : Program) (g : CoreFunction) → AreActsIn p g 0 [] out_of_one → ⊥ }
+    ensures break_out_of_two { (p : Program) (g : CoreFunction) → AreActsIn p g 0 [] out_of_two }
+    ensures six_in_fours { IsUnits 6 4 → ⊥ }
+    ensures six_in_twos { IsUnits 6 2 }
 {}
