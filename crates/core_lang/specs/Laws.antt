@@ -5,6 +5,7 @@ pub mod Depth
 pub mod WellFormed
 pub mod Following
 pub mod Keeping
+pub mod Variables
 pub mod Regions
 pub mod Addresses
 pub mod Statics

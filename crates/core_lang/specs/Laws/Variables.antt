@@ -1,0 +1,173 @@
+-- Laws of variables: what an assignment changes, and that acts change no variable that they do not assign.
+use Rattle.std.proofs.Common.{◌≡◌, ◌≢◌, refl, sym, ap, ◌∙◌, subst, ℕ, zero, suc, ◌+◌, ◌≤◌, ◌<◌, ⊎_elim, List, [], ◌∷◌, length, arith}
+use Rattle.std.proofs.lemmas.Bool.Decides.{eqb_tells}
+use Rattle.std.proofs.lemmas.Option.{none-some, same_Some}
+use Rattle.std.specs.Prelude.{Option, Some, None, Bool, true, false, ◌==◌, if◌then◌else◌, map, slice_get}
+use Rattle.word_ops.specs.Word.{number_of_truth}
+use Rattle.word_ops.specs.Store.{Value, Number, Pointer, Store, Unset, Byte, refill_region}
+use Rattle.word_ops.specs.Access.{load, write}
+use Rattle.word_ops.specs.Values.{value_of_operation}
+use Rattle.word_ops.specs.Run.{Outside, Run, Gives, Ends, Undefined, then_do, next_word}
+use Rattle.core_lang.specs.declared.act.Atom.{Atom}
+use Rattle.core_lang.specs.declared.act.Core.{Core, Row_of-Core, end_of-Core, more_of-Core}
+use Rattle.core_lang.specs.declared.act.Core.TheVariants as c
+use Rattle.core_lang.specs.State.{State, Activation, value_of_atom, values_of_atoms, assigned, argument}
+use Rattle.core_lang.specs.Copying.{copied}
+use Rattle.core_lang.specs.Acts.{Invocation, Calls, Flow, Falls, Leaves, Returned, Does, assign, assign_result, with_store, value_of_pointers, put_value, exit_value, act, acts}
+use Rattle.core_lang.specs.Following.{IsPlainAct, EachAct, EachInRow, EachOf, OnGives, OnReturned, KeepsState}
+use Rattle.core_lang.specs.WellFormed.{targets, occurrences, places_in_act, places_in_row, places_in}
+use Rattle.core_lang.specs.Laws.Keeping.{OnGives-then, OnGives-given, OnGives-tick, OnGives-more, acts-keep}
+
+-- ---- assignments
+
+pub assigned-same : (s : State) (x : ℕ) (v : Value) → (assigned s x v).vars x ≡ v
+assigned-same s x v =
+    ⊎_elim (λ e. ap (λ b. if b then v else s.vars x) e.0) (λ n. absurd (n.1 refl)) (eqb_tells x x)
+
+pub assigned-other : (s : State) (x y : ℕ) (v : Value) → y ≢ x → (assigned s x v).vars y ≡ s.vars y
+assigned-other s x y v ne =
+    ⊎_elim (λ e. absurd (ne e.1)) (λ n. ap (λ b. if b then v else s.vars y) n.0) (eqb_tells y x)
+
+-- ---- arguments
+
+pub argument-get : (vs : List Value) (x : ℕ) (v : Value) → slice_get vs x ≡ Some v → argument vs x ≡ v
+argument-get [] x v e = absurd (none-some v e)
+argument-get (u ∷ vs) zero v e = same_Some u v e
+argument-get (u ∷ vs) (suc x) v e = argument-get vs x v e
+
+pub argument-past : (vs : List Value) (x : ℕ) → length vs ≤ x → argument vs x ≡ Number 0
+argument-past [] x le = refl
+argument-past (u ∷ vs) zero le = absurd (omega (arith, le))
+argument-past (u ∷ vs) (suc x) le = argument-past vs x (omega (arith, le))
+
+pub values_of_atoms-map : (e : Activation) (s : State) (vs : List Atom) →
+    values_of_atoms e s vs ≡ map (value_of_atom e s) vs
+values_of_atoms-map e s [] = refl
+values_of_atoms-map e s (v ∷ vs) = ap (λ l. value_of_atom e s v ∷ l) (values_of_atoms-map e s vs)
+
+pub length-values_of_atoms : (e : Activation) (s : State) (vs : List Atom) → length (values_of_atoms e s vs) ≡ length vs
+length-values_of_atoms e s [] = refl
+length-values_of_atoms e s (v ∷ vs) = ap suc (length-values_of_atoms e s vs)
+
+-- ---- what acts do not assign
+
+-- an act does not assign a number itself
+abbrev pub IsNoTarget : ℕ → Core → Type 0
+IsNoTarget x a = occurrences x (targets a) ≡ 0
+
+left_none : (a b : ℕ) → a + b ≡ 0 → a ≡ 0
+left_none a b e = omega (arith, e)
+
+right_none : (a b : ℕ) → a + b ≡ 0 → b ≡ 0
+right_none a b e = omega (arith, e)
+
+module _ (x : ℕ) where
+  mutual
+    no_place_act : (a : Core) → places_in_act x a ≡ 0 → EachAct (IsNoTarget x) (λ v. Unit {0}) a
+    no_place_act (c.Block' n all) h = no_place_row all h
+    no_place_act (c.Loop' n all) h = no_place_row all h
+    no_place_act (c.If' v n first m second) h =
+        (tt, no_place_row first (left_none (places_in_row x first) (places_in_row x second) h), no_place_row second (right_none (places_in_row x first) (places_in_row x second) h))
+    no_place_act (c.Move y v) h = h
+    no_place_act (c.Operate y op u v) h = h
+    no_place_act (c.Pointer y op u v) h = h
+    no_place_act (c.Load y k p) h = h
+    no_place_act (c.Store k p v) h = h
+    no_place_act (c.Enter y) h = h
+    no_place_act (c.Fill y) h = h
+    no_place_act (c.Copy u v n k) h = h
+    no_place_act (c.Call y f vs) h = h
+    no_place_act (c.Get y) h = h
+    no_place_act (c.Put v) h = h
+    no_place_act (c.Exit v) h = h
+    no_place_act (c.Break k) h = h
+    no_place_act (c.Return v) h = h
+
+    no_place_row : {n : _} (r : Row_of-Core n) → places_in_row x r ≡ 0 → EachInRow (IsNoTarget x) (λ v. Unit {0}) r
+    no_place_row end_of-Core h = tt
+    no_place_row (more_of-Core a rest) h =
+        (no_place_act a (left_none (places_in_act x a) (places_in_row x rest) h), no_place_row rest (right_none (places_in_act x a) (places_in_row x rest) h))
+
+  pub no_place : (xs : List Core) → places_in x xs ≡ 0 → EachOf (IsNoTarget x) (λ v. Unit {0}) xs
+  no_place [] h = tt
+  no_place (a ∷ xs) h =
+      (no_place_act a (left_none (places_in_act x a) (places_in x xs) h), no_place xs (right_none (places_in_act x a) (places_in x xs) h))
+
+  module _ (call : Calls) (e : Activation) (u : Value) where
+    -- the variable has this value
+    abbrev Has : State → Type 0
+    Has s = s.vars x ≡ u
+
+    abbrev After : State → Flow → Type 0
+    After s f = Has s × OnReturned (λ v. Unit {0}) f
+
+    not_target : (y : ℕ) → occurrences x (y ∷ []) ≡ 0 → x ≢ y
+    not_target y h q = ⊎_elim (λ t. one (ap number_of_truth t.0) h) (λ n. n.1 q) (eqb_tells x y)
+      where
+        one : number_of_truth (x == y) ≡ 1 → number_of_truth (x == y) + 0 ≡ 0 → ⊥
+        one a b = omega (arith, a, b)
+
+    assigned_has : (y : ℕ) (v : Value) (s : State) → occurrences x (y ∷ []) ≡ 0 → Has s → Has (assigned s y v)
+    assigned_has y v s h i = assigned-other s y x v (not_target y h) ∙ i
+
+    assign_has : (y : ℕ) (o : Option Value) (s : State) (w : Outside) → occurrences x (y ∷ []) ≡ 0 → Has s →
+        OnGives After (assign y o s w)
+    assign_has y o s w h i =
+        OnGives-given After o (λ v. Gives (assigned s y v) w Falls) (λ v q. (assigned_has y v s h i, tt))
+
+    store_has : (t : Option Store) (s : State) (w : Outside) → Has s → OnGives After (with_store t s w)
+    store_has t s w i = OnGives-given After t (λ t. Gives (record s { store = t }) w Falls) (λ t q. (i, tt))
+
+    put_has : (v : Value) (s : State) (w : Outside) → Has s → OnGives After (put_value v s w)
+    put_has (Number n) s w i = OnGives-tick After _ (λ w. Gives s w Falls) (λ u. (i, tt))
+    put_has (Pointer r o) s w i = tt
+
+    exit_has : (v : Value) (s : State) (w : Outside) → OnGives After (exit_value v s w)
+    exit_has (Number n) s w = tt
+    exit_has (Pointer r o) s w = tt
+
+    plain_has : (a : Core) → IsPlainAct a → IsNoTarget x a → KeepsState Has (λ s v. Unit {0}) (act call e a)
+    plain_has (c.Move y v) p h s w i = (assigned_has y (value_of_atom e s v) s h i, tt)
+    plain_has (c.Operate y op a b) p h s w i =
+        assign_has y (value_of_operation s.store op (value_of_atom e s a) (value_of_atom e s b)) s w h i
+    plain_has (c.Pointer y op a b) p h s w i =
+        assign_has y (value_of_pointers s.store op (value_of_atom e s a) (value_of_atom e s b)) s w h i
+    plain_has (c.Load y k a) p h s w i = assign_has y (load s.store k (value_of_atom e s a)) s w h i
+    plain_has (c.Store k a b) p h s w i =
+        store_has (write s.store k (value_of_atom e s a) (value_of_atom e s b)) s w i
+    plain_has (c.Enter y) p h s w i = (i, tt)
+    plain_has (c.Fill y) p h s w i = (i, tt)
+    plain_has (c.Copy a b n k) p h s w i =
+        store_has (copied s.store (value_of_atom e s a) (value_of_atom e s b) n k) s w i
+    plain_has (c.Call None f vs) p h s w i =
+        let j : Invocation = record { function = f; arguments = values_of_atoms e s vs; stack = e.stack; store = s.store } in
+        OnGives-tick After w _ (λ w. OnGives-then (λ t v. Unit {0}) After (call j w) _ (anything (call j w)) (λ t w v m. (i, tt)))
+      where
+        anything : (r : Run Store (Option Value)) → OnGives (λ t v. Unit {0}) r
+        anything (Gives t w v) = tt
+        anything (Ends d w) = tt
+        anything Undefined = tt
+    plain_has (c.Call (Some y) f vs) p h s w i =
+        let j : Invocation = record { function = f; arguments = values_of_atoms e s vs; stack = e.stack; store = s.store } in
+        OnGives-tick After w _ (λ w. OnGives-then (λ t v. Unit {0}) After (call j w) _ (anything (call j w)) (λ t w v m. assign_has y v (record s { store = t }) w h i))
+      where
+        anything : (r : Run Store (Option Value)) → OnGives (λ t v. Unit {0}) r
+        anything (Gives t w v) = tt
+        anything (Ends d w) = tt
+        anything Undefined = tt
+    plain_has (c.Get y) p h s w i =
+        OnGives-tick After _ (λ u. Gives (assigned s y (Number (next_word w.input))) u Falls) (λ u. (assigned_has y (Number (next_word w.input)) s h i, tt))
+    plain_has (c.Put v) p h s w i = put_has (value_of_atom e s v) s w i
+    plain_has (c.Exit v) p h s w i = exit_has (value_of_atom e s v) s w
+    plain_has (c.Block' n all) p h s w i = absurd p
+    plain_has (c.Loop' n all) p h s w i = absurd p
+    plain_has (c.Break k) p h s w i = (i, tt)
+    plain_has (c.If' v n first m second) p h s w i = absurd p
+    plain_has (c.Return None) p h s w i = (i, tt)
+    plain_has (c.Return (Some v)) p h s w i = (i, tt)
+
+-- acts leave the value of each variable that they assign in no place
+pub acts-unassigned : (call : Calls) (e : Activation) (x : ℕ) (xs : List Core) → places_in x xs ≡ 0 → (s : State)
+    (w : Outside) → OnGives (λ (t : State) f. t.vars x ≡ s.vars x) (acts call e xs s w)
+acts-unassigned call e x xs h s w =
+    OnGives-more _ (λ (t : State) f. t.vars x ≡ s.vars x) (acts call e xs s w) (acts-keep (λ t. t.vars x ≡ s.vars x) (λ s v. Unit {0}) call e (IsNoTarget x) (λ v. Unit {0}) (plain_has x call e (s.vars x)) xs (no_place x xs h) s w refl) (λ t f h. h.0)
