@@ -36,7 +36,7 @@ use Rattle.core_lang.specs.Run.{local_regions, frame_of, activation_of, first_st
 use Rattle.core_lang.specs.Following.{IsPlainAct, EachAct, EachInRow, EachOf, OnGives, OnReturned, KeepsState}
 use Rattle.core_lang.specs.WellFormed.{targets, IsAtomIn, AreAtomsIn, IsActIn, IsRowIn, AreActsIn, IsFunctionIn, IsWellFormed}
 use Rattle.core_lang.specs.Addresses.{LieApart, IsLayoutOf, IsFree, NoneLiveBehind, AreValuesIn, IsOptionIn, IsSound, KeepsAddresses, IsCallable}
-use Rattle.core_lang.specs.Laws.Keeping.{OnGives-then, OnGives-given, OnGives-tick, OnGives-more, acts-keep}
+use Rattle.core_lang.specs.Laws.Keeping.{OnGives-then, OnGives-given, Kept, assign-keeps, with_store-keeps, put_value-keeps, exit_value-keeps, get-keeps, call-keeps, acts-keep}
 use Rattle.core_lang.specs.Laws.Regions.{copied-some, copied-shapes, OnGives-branch}
 
 -- ---- values
@@ -319,9 +319,8 @@ module _ (l : Layout) (p : Program) (deepest : ℕ) (layout : IsLayoutOf l p dee
     atoms_in s ts [] h k = tt
     atoms_in s ts (v ∷ vs) h k = (atom_in s ts v h k.0, atoms_in s ts vs h k.1)
 
-    -- sound, and what the function gives back is a value of the store
-    abbrev After : State → Flow → Type 0
-    After s f = IsSound first.store s × OnReturned (IsOptionIn s.store) f
+    abbrev Given : State → Option Value → Type 0
+    Given s v = IsOptionIn s.store v
 
     assigned_sound : (x : ℕ) (v : Value) (s : State) → IsSound first.store s → IsValueIn s.store v →
         IsSound first.store (assigned s x v)
@@ -331,15 +330,9 @@ module _ (l : Layout) (p : Program) (deepest : ℕ) (layout : IsLayoutOf l p dee
         vars y = elim (y == x) as (λ b. IsValueIn s.store (if b then v else s.vars y)) [ true ↦ k | false ↦ h.values y ]
 
     assign_sound : (x : ℕ) (o : Option Value) (s : State) (w : Outside) → IsSound first.store s →
-        ((v : Value) → o ≡ Some v → IsValueIn s.store v) → OnGives After (assign x o s w)
+        ((v : Value) → o ≡ Some v → IsValueIn s.store v) → OnGives (Kept (IsSound first.store) Given) (assign x o s w)
     assign_sound x o s w h k =
-        OnGives-given After o (λ v. Gives (assigned s x v) w Falls) (λ v q. (assigned_sound x v s h (k v q), tt))
-
-    result_sound : (x : Option ℕ) (o : Option Value) (s : State) (w : Outside) → IsSound first.store s →
-        IsOptionIn s.store o → OnGives After (assign_result x o s w)
-    result_sound None o s w h k = (h, tt)
-    result_sound (Some x) None s w h k = tt
-    result_sound (Some x) (Some v) s w h k = (assigned_sound x v s h k, tt)
+        assign-keeps (IsSound first.store) Given x o s w (λ v q. assigned_sound x v s h (k v q))
 
     stored_sound : (t : Store) (s : State) → IsSound first.store s → SameShapes s.store t → IsAddressed t →
         IsSound first.store (record s { store = t })
@@ -347,29 +340,22 @@ module _ (l : Layout) (p : Program) (deepest : ℕ) (layout : IsLayoutOf l p dee
         record { addressed = a; values = λ x. IsValueIn-same s.store t (s.vars x) (SameShapes-regions s.store t k) (h.values x); regions = SameRegions-trans first.store s.store t h.regions (SameShapes-regions s.store t k); live = λ r z q live. h.live r z (sym (k r) ∙ q) live }
 
     with_store_sound : (o : Option Store) (s : State) (w : Outside) → IsSound first.store s →
-        ((t : Store) → o ≡ Some t → SameShapes s.store t × IsAddressed t) → OnGives After (with_store o s w)
+        ((t : Store) → o ≡ Some t → SameShapes s.store t × IsAddressed t) →
+        OnGives (Kept (IsSound first.store) Given) (with_store o s w)
     with_store_sound o s w h k =
-        OnGives-given After o (λ t. Gives (record s { store = t }) w Falls) (λ t q. (stored_sound t s h (k t q).0 (k t q).1, tt))
+        with_store-keeps (IsSound first.store) Given o s w (λ t q. stored_sound t s h (k t q).0 (k t q).1)
 
     called_sound : (t : Store) (v : Option Value) (s : State) → IsSound first.store s → KeepsAddresses s.store t v →
         IsSound first.store (record s { store = t })
     called_sound t v s h m =
         record { addressed = m.addressed; values = λ x. IsValueIn-same s.store t (s.vars x) m.regions (h.values x); regions = SameRegions-trans first.store s.store t h.regions m.regions; live = λ r z q live. h.live r z (m.live r z q live) live }
 
-    put_sound : (v : Value) (s : State) (w : Outside) → IsSound first.store s → OnGives After (put_value v s w)
-    put_sound (Number n) s w h = OnGives-tick After _ (λ w. Gives s w Falls) (λ u. (h, tt))
-    put_sound (Pointer r o) s w h = tt
-
-    exit_sound : (v : Value) (s : State) (w : Outside) → OnGives After (exit_value v s w)
-    exit_sound (Number n) s w = tt
-    exit_sound (Pointer r o) s w = tt
-
     next_word_small : (xs : List ℕ) → next_word xs < 2 ^ 32
     next_word_small xs = ⊎_elim (λ a. omega (arith, a)) (λ b. omega (arith, b)) (next_word-in xs)
 
     module _ (call : Calls) (sound : (i : Invocation) (w : Outside) → IsCallable p layout.bottom layout.largest depth i → OnGives (KeepsAddresses i.store) (call i w)) where
       pub plain_sound : (a : Core) → IsPlainAct a → IsFormed p g a →
-          KeepsState (IsSound first.store) (λ s v. IsOptionIn s.store v) (act call here a)
+          KeepsState (IsSound first.store) Given (act call here a)
       plain_sound (c.Move x v) q f s w h =
           (assigned_sound x (value_of_atom here s v) s h (atom_in s f.1 v h f.2.1), tt)
       plain_sound (c.Operate x op u v) q f s w h =
@@ -387,12 +373,11 @@ module _ (l : Layout) (p : Program) (deepest : ℕ) (layout : IsLayoutOf l p dee
       plain_sound (c.Copy u v n k) q f s w h =
           with_store_sound (copied s.store (value_of_atom here s u) (value_of_atom here s v) n k) s w h (λ t d. (copied-shapes s.store t (value_of_atom here s u) (value_of_atom here s v) n k d, IsAddressed-copied s.store t (value_of_atom here s u) (value_of_atom here s v) n k d h.addressed))
       plain_sound (c.Call x f vs) q m s w h =
-          let j : Invocation = record { function = f; arguments = values_of_atoms here s vs; stack = here.stack; store = s.store } in
-          OnGives-tick After w _ (λ w. OnGives-then (KeepsAddresses s.store) After (call j w) _ (sound j w (callee s f (values_of_atoms here s vs) h (atoms_in s m.1 vs h m.2.2))) (λ t w v y. result_sound x v (record s { store = t }) w (called_sound t v s h y) y.value))
+          call-keeps (IsSound first.store) Given call here x f vs s w (KeepsAddresses s.store) (λ w. sound _ w (callee s f (values_of_atoms here s vs) h (atoms_in s m.1 vs h m.2.2))) (λ t v y. called_sound t v s h y) (λ t y v a k j. assigned_sound y v (record s { store = t }) j k.value)
       plain_sound (c.Get x) q f s w h =
-          OnGives-tick After _ (λ u. Gives (assigned s x (Number (next_word w.input))) u Falls) (λ u. (assigned_sound x (Number (next_word w.input)) s h (next_word_small w.input), tt))
-      plain_sound (c.Put v) q f s w h = put_sound (value_of_atom here s v) s w h
-      plain_sound (c.Exit v) q f s w h = exit_sound (value_of_atom here s v) s w
+          get-keeps (IsSound first.store) Given x s w (assigned_sound x (Number (next_word w.input)) s h (next_word_small w.input))
+      plain_sound (c.Put v) q f s w h = put_value-keeps (IsSound first.store) Given (value_of_atom here s v) s w h
+      plain_sound (c.Exit v) q f s w h = exit_value-keeps (IsSound first.store) Given (value_of_atom here s v) s w
       plain_sound (c.Block' n all) q f s w h = absurd q
       plain_sound (c.Loop' n all) q f s w h = absurd q
       plain_sound (c.Break k) q f s w h = (h, tt)
@@ -407,13 +392,13 @@ module _ (l : Layout) (p : Program) (deepest : ℕ) (layout : IsLayoutOf l p dee
 
       -- acts of the function that are well formed keep all this
       pub acts-sound : (k : ℕ) (ts : List ℕ) (xs : List Core) → AreActsIn p g k ts xs →
-          KeepsState (IsSound first.store) (λ s v. IsOptionIn s.store v) (acts call here xs)
+          KeepsState (IsSound first.store) Given (acts call here xs)
       acts-sound k ts xs h =
-          acts-keep (IsSound first.store) (λ s v. IsOptionIn s.store v) call here (IsFormed p g) (IsFormedAtom p g) plain_sound xs (AreActsIn-each p g k ts xs h)
+          acts-keep (IsSound first.store) Given call here (IsFormed p g) (IsFormedAtom p g) plain_sound xs (AreActsIn-each p g k ts xs h)
 
       body_sound : (w : Outside) → OnGives (KeepsAddresses i.store) (run_body l call i g w)
       body_sound w =
-          OnGives-then After (KeepsAddresses i.store) (acts call here g.body first w) _ (acts-sound 0 [] g.body (formed.functions i.function g there).body first w first_sound) (λ s w f h. ends_sound s (value_given_back f) h.0 (given_back s f h.1))
+          OnGives-then (Kept (IsSound first.store) Given) (KeepsAddresses i.store) (acts call here g.body first w) _ (acts-sound 0 [] g.body (formed.functions i.function g there).body first w first_sound) (λ s w f h. ends_sound s (value_given_back f) h.0 (given_back s f h.1))
 
   -- a call that may be made keeps addresses, gives a value of the store, and leaves no further region live
   pub calls-sound : (depth : ℕ) (i : Invocation) (w : Outside) → IsCallable p layout.bottom layout.largest depth i →

@@ -1,15 +1,15 @@
 -- What acts keep of a state, by induction over acts.
 use Rattle.std.proofs.Common.{◌≡◌, refl, sym, ap, ◌∙◌, subst, ℕ, zero, suc, ◌+◌}
 use Rattle.std.specs.Prelude.{Option, Some, None, Bool, List, [], ◌∷◌}
-use Rattle.word_ops.specs.Store.{Value}
+use Rattle.word_ops.specs.Store.{Value, Number, Pointer, Store}
 use Rattle.word_ops.specs.Values.{truth}
-use Rattle.word_ops.specs.Run.{Outside, Run, Gives, Ends, Undefined, then_do, given, tick_from, tick}
+use Rattle.word_ops.specs.Run.{Outside, Run, Gives, Ends, Undefined, then_do, given, tick_from, tick, next_word, get_byte}
 use Rattle.word_ops.specs.Following.{Follows}
 use Rattle.core_lang.specs.declared.act.Atom.{Atom}
 use Rattle.core_lang.specs.declared.act.Core.{Core, Row_of-Core, end_of-Core, more_of-Core}
 use Rattle.core_lang.specs.declared.act.Core.TheVariants as c
-use Rattle.core_lang.specs.State.{State, Activation, value_of_atom}
-use Rattle.core_lang.specs.Acts.{Calls, Flow, Falls, Leaves, Returned, Does, act, acts}
+use Rattle.core_lang.specs.State.{State, Activation, value_of_atom, values_of_atoms, assigned}
+use Rattle.core_lang.specs.Acts.{Invocation, Calls, Flow, Falls, Leaves, Returned, Does, assign, assign_result, with_store, put_value, exit_value, act, acts}
 use Rattle.core_lang.specs.Following.{FlowsAlike, EndAlike, IsPlainAct, EachAct, EachInRow, EachOf, OnGives, OnReturned, KeepsState}
 use Rattle.core_lang.specs.Laws.Following.{acts-alike}
 
@@ -39,6 +39,11 @@ pub OnGives-more : {S A : Type 0} (P Q : S → A → Type 0) (r : Run S A) → O
 OnGives-more P Q (Gives s w a) h k = k s a h
 OnGives-more P Q (Ends e w) h k = tt
 OnGives-more P Q Undefined h k = tt
+
+pub OnGives-any : {S A : Type 0} (r : Run S A) → OnGives (λ s a. Unit {0}) r
+OnGives-any (Gives s w a) = tt
+OnGives-any (Ends e w) = tt
+OnGives-any Undefined = tt
 
 -- ---- acts
 
@@ -72,6 +77,49 @@ each_of [] = tt
 each_of (a ∷ xs) = (each_act a, each_of xs)
 
 module _ (I : State → Type 0) (W : State → Option Value → Type 0) where
+  -- the property holds, and what is given back has one
+  abbrev pub Kept : State → Flow → Type 0
+  Kept s f = I s × OnReturned (W s) f
+
+  -- the parts of acts keep the property where the states that they give have it
+
+  pub assign-keeps : (x : ℕ) (o : Option Value) (s : State) (w : Outside) →
+      ((v : Value) → o ≡ Some v → I (assigned s x v)) → OnGives Kept (assign x o s w)
+  assign-keeps x o s w h = OnGives-given Kept o (λ v. Gives (assigned s x v) w Falls) (λ v e. (h v e, tt))
+
+  pub assign_result-keeps : (x : Option ℕ) (o : Option Value) (s : State) (w : Outside) → I s →
+      ((y : ℕ) (v : Value) → x ≡ Some y → o ≡ Some v → I (assigned s y v)) → OnGives Kept (assign_result x o s w)
+  assign_result-keeps None o s w i h = (i, tt)
+  assign_result-keeps (Some x) o s w i h = assign-keeps x o s w (λ v e. h x v refl e)
+
+  pub with_store-keeps : (o : Option Store) (s : State) (w : Outside) →
+      ((t : Store) → o ≡ Some t → I (record s { store = t })) → OnGives Kept (with_store o s w)
+  with_store-keeps o s w h = OnGives-given Kept o (λ t. Gives (record s { store = t }) w Falls) (λ t e. (h t e, tt))
+
+  pub put_value-keeps : (v : Value) (s : State) (w : Outside) → I s → OnGives Kept (put_value v s w)
+  put_value-keeps (Number n) s w i = OnGives-tick Kept _ (λ w. Gives s w Falls) (λ u. (i, tt))
+  put_value-keeps (Pointer r o) s w i = tt
+
+  pub exit_value-keeps : (v : Value) (s : State) (w : Outside) → OnGives Kept (exit_value v s w)
+  exit_value-keeps (Number n) s w = tt
+  exit_value-keeps (Pointer r o) s w = tt
+
+  pub get-keeps : (x : ℕ) (s : State) (w : Outside) → I (assigned s x (Number (next_word w.input))) →
+      OnGives Kept (get_byte w (λ n w. Gives (assigned s x (Number n)) w Falls))
+  get-keeps x s w h =
+      OnGives-tick Kept _ (λ u. Gives (assigned s x (Number (next_word w.input))) u Falls) (λ u. (h, tt))
+
+  -- a call that gives what has a property
+  pub call-keeps : (call : Calls) (e : Activation) (x : Option ℕ) (f : ℕ) (vs : List Atom) (s : State) (w : Outside)
+      (P : Store → Option Value → Type 0) →
+      ((w : Outside) → OnGives P (call (record { function = f; arguments = values_of_atoms e s vs; stack = e.stack; store = s.store }) w)) →
+      ((t : Store) (v : Option Value) → P t v → I (record s { store = t })) →
+      ((t : Store) (y : ℕ) (v : Value) → x ≡ Some y → P t (Some v) → I (record s { store = t }) → I (assigned (record s { store = t }) y v)) →
+      OnGives Kept (act call e (c.Call x f vs) s w)
+  call-keeps call e x f vs s w P h k m =
+      let i : Invocation = record { function = f; arguments = values_of_atoms e s vs; stack = e.stack; store = s.store } in
+      OnGives-tick Kept w _ (λ w. OnGives-then P Kept (call i w) _ (h w) (λ t w v p. assign_result-keeps x v (record s { store = t }) w (k t v p) (λ y u a b. m t y u a (subst (P t) b p) (k t v p))))
+
   -- the same state, in which it holds
   abbrev Same : State → State → Type 0
   Same s t = (s ≡ t) × I s

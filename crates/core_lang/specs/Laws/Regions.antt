@@ -20,7 +20,7 @@ use Rattle.core_lang.specs.Copying.{in_units, overlap_in_part, copied}
 use Rattle.core_lang.specs.Acts.{Invocation, Calls, Flow, Falls, Leaves, Returned, Does, assign, assign_result, with_store, value_of_pointers, put_value, exit_value, act, acts}
 use Rattle.core_lang.specs.Run.{local_regions, frame_of, activation_of, first_state, value_given_back, run_body, run_function, call_of, calls}
 use Rattle.core_lang.specs.Following.{IsPlainAct, OnGives, OnReturned, KeepsState}
-use Rattle.core_lang.specs.Laws.Keeping.{OnGives-then, OnGives-given, OnGives-tick, OnGives-more, each_of, acts-keep}
+use Rattle.core_lang.specs.Laws.Keeping.{OnGives-then, OnGives-given, OnGives-more, Kept, assign-keeps, with_store-keeps, put_value-keeps, exit_value-keeps, get-keeps, call-keeps, each_of, acts-keep}
 
 -- ---- copies
 
@@ -60,30 +60,22 @@ module _ (call : Calls) (kept : (c : Invocation) (w : Outside) → OnGives (λ t
   abbrev Has : State → Type 0
   Has s = SameRegions start s.store
 
-  abbrev After : State → Flow → Type 0
-  After s f = Has s × OnReturned (λ v. Unit {0}) f
+  abbrev Nothing : State → Option Value → Type 0
+  Nothing s v = Unit {0}
 
-  assign_has : (x : ℕ) (v : Option Value) (s : State) (w : Outside) → Has s → OnGives After (assign x v s w)
-  assign_has x v s w h = OnGives-given After v (λ v. Gives (assigned s x v) w Falls) (λ v e. (h, tt))
+  assign_has : (x : ℕ) (o : Option Value) (s : State) (w : Outside) → Has s → OnGives (Kept Has Nothing) (assign x o s w)
+  assign_has x o s w h = assign-keeps Has Nothing x o s w (λ v e. h)
 
-  result_has : (x : Option ℕ) (v : Option Value) (s : State) (w : Outside) → Has s → OnGives After (assign_result x v s w)
-  result_has None v s w h = (h, tt)
-  result_has (Some x) v s w h = assign_has x v s w h
+  store_has : (o : Option Store) (s : State) (w : Outside) → Has s →
+      ((t : Store) → o ≡ Some t → SameShapes s.store t) → OnGives (Kept Has Nothing) (with_store o s w)
+  store_has o s w h k =
+      with_store-keeps Has Nothing o s w (λ t e. SameRegions-trans start s.store t h (SameShapes-regions s.store t (k t e)))
 
-  store_has : (t : Option Store) (s : State) (w : Outside) → Has s → ((u : Store) → t ≡ Some u → SameShapes s.store u) →
-      OnGives After (with_store t s w)
-  store_has t s w h k =
-      OnGives-given After t (λ t. Gives (record s { store = t }) w Falls) (λ u e. (SameRegions-trans start s.store u h (SameShapes-regions s.store u (k u e)), tt))
+  refill_has : (s : State) (r : ℕ) (c : Cell) → Has s → Has (record s { store = refill_region s.store r c })
+  refill_has s r c h =
+      SameRegions-trans start s.store (refill_region s.store r c) h (SameShapes-regions s.store (refill_region s.store r c) (refill_region-shapes s.store r c))
 
-  put_has : (v : Value) (s : State) (w : Outside) → Has s → OnGives After (put_value v s w)
-  put_has (Number n) s w h = OnGives-tick After _ (λ w. Gives s w Falls) (λ u. (h, tt))
-  put_has (Pointer r o) s w h = tt
-
-  exit_has : (v : Value) (s : State) (w : Outside) → OnGives After (exit_value v s w)
-  exit_has (Number n) s w = tt
-  exit_has (Pointer r o) s w = tt
-
-  plain_has : (e : Activation) (a : Core) → IsPlainAct a → Unit {0} → KeepsState Has (λ s v. Unit {0}) (act call e a)
+  plain_has : (e : Activation) (a : Core) → IsPlainAct a → Unit {0} → KeepsState Has Nothing (act call e a)
   plain_has e (c.Move x v) p q s w h = (h, tt)
   plain_has e (c.Operate x op u v) p q s w h =
       assign_has x (value_of_operation s.store op (value_of_atom e s u) (value_of_atom e s v)) s w h
@@ -92,19 +84,15 @@ module _ (call : Calls) (kept : (c : Invocation) (w : Outside) → OnGives (λ t
   plain_has e (c.Load x k v) p q s w h = assign_has x (load s.store k (value_of_atom e s v)) s w h
   plain_has e (c.Store k u v) p q s w h =
       store_has (write s.store k (value_of_atom e s u) (value_of_atom e s v)) s w h (λ t d. write-shapes s.store t k (value_of_atom e s u) (value_of_atom e s v) d)
-  plain_has e (c.Enter x) p q s w h =
-      (SameRegions-trans start s.store (refill_region s.store (e.first + x) Unset) h (SameShapes-regions s.store _ (refill_region-shapes s.store (e.first + x) Unset)), tt)
-  plain_has e (c.Fill x) p q s w h =
-      (SameRegions-trans start s.store (refill_region s.store (e.first + x) (Byte 0)) h (SameShapes-regions s.store _ (refill_region-shapes s.store (e.first + x) (Byte 0))), tt)
+  plain_has e (c.Enter x) p q s w h = (refill_has s (e.first + x) Unset h, tt)
+  plain_has e (c.Fill x) p q s w h = (refill_has s (e.first + x) (Byte 0) h, tt)
   plain_has e (c.Copy u v n k) p q s w h =
       store_has (copied s.store (value_of_atom e s u) (value_of_atom e s v) n k) s w h (λ t d. copied-shapes s.store t (value_of_atom e s u) (value_of_atom e s v) n k d)
   plain_has e (c.Call x f vs) p q s w h =
-      let i : Invocation = record { function = f; arguments = values_of_atoms e s vs; stack = e.stack; store = s.store } in
-      OnGives-tick After w _ (λ w. OnGives-then (λ t v. SameRegions s.store t) After (call i w) _ (kept i w) (λ t w v m. result_has x v (record s { store = t }) w (SameRegions-trans start s.store t h m)))
-  plain_has e (c.Get x) p q s w h =
-      OnGives-tick After _ (λ u. Gives (assigned s x (Number (next_word w.input))) u Falls) (λ u. (h, tt))
-  plain_has e (c.Put v) p q s w h = put_has (value_of_atom e s v) s w h
-  plain_has e (c.Exit v) p q s w h = exit_has (value_of_atom e s v) s w
+      call-keeps Has Nothing call e x f vs s w (λ t v. SameRegions s.store t) (λ w. kept _ w) (λ t v m. SameRegions-trans start s.store t h m) (λ t y v a m i. i)
+  plain_has e (c.Get x) p q s w h = get-keeps Has Nothing x s w h
+  plain_has e (c.Put v) p q s w h = put_value-keeps Has Nothing (value_of_atom e s v) s w h
+  plain_has e (c.Exit v) p q s w h = exit_value-keeps Has Nothing (value_of_atom e s v) s w
   plain_has e (c.Block' n all) p q s w h = absurd p
   plain_has e (c.Loop' n all) p q s w h = absurd p
   plain_has e (c.Break k) p q s w h = (h, tt)
@@ -112,9 +100,8 @@ module _ (call : Calls) (kept : (c : Invocation) (w : Outside) → OnGives (λ t
   plain_has e (c.Return None) p q s w h = (h, tt)
   plain_has e (c.Return (Some v)) p q s w h = (h, tt)
 
-  acts_have : (e : Activation) (xs : List Core) → KeepsState Has (λ s v. Unit {0}) (acts call e xs)
-  acts_have e xs =
-      acts-keep Has (λ s v. Unit {0}) call e (λ a. Unit {0}) (λ v. Unit {0}) (plain_has e) xs (each_of xs)
+  acts_have : (e : Activation) (xs : List Core) → KeepsState Has Nothing (acts call e xs)
+  acts_have e xs = acts-keep Has Nothing call e (λ a. Unit {0}) (λ v. Unit {0}) (plain_has e) xs (each_of xs)
 
 -- acts leave the regions of the store
 pub acts-regions : (call : Calls) → ((c : Invocation) (w : Outside) → OnGives (λ t v. SameRegions c.store t) (call c w)) →

@@ -16,7 +16,7 @@ use Rattle.core_lang.specs.Copying.{copied}
 use Rattle.core_lang.specs.Acts.{Invocation, Calls, Flow, Falls, Leaves, Returned, Does, assign, assign_result, with_store, value_of_pointers, put_value, exit_value, act, acts}
 use Rattle.core_lang.specs.Following.{IsPlainAct, EachAct, EachInRow, EachOf, OnGives, OnReturned, KeepsState}
 use Rattle.core_lang.specs.WellFormed.{targets, occurrences, places_in_act, places_in_row, places_in}
-use Rattle.core_lang.specs.Laws.Keeping.{OnGives-then, OnGives-given, OnGives-tick, OnGives-more, acts-keep}
+use Rattle.core_lang.specs.Laws.Keeping.{OnGives-any, OnGives-more, Kept, assign-keeps, with_store-keeps, put_value-keeps, exit_value-keeps, get-keeps, call-keeps, acts-keep}
 
 -- ---- assignments
 
@@ -98,9 +98,6 @@ module _ (x : ℕ) where
     abbrev Has : State → Type 0
     Has s = s.vars x ≡ u
 
-    abbrev After : State → Flow → Type 0
-    After s f = Has s × OnReturned (λ v. Unit {0}) f
-
     not_target : (y : ℕ) → occurrences x (y ∷ []) ≡ 0 → x ≢ y
     not_target y h q = ⊎_elim (λ t. one (ap number_of_truth t.0) h) (λ n. n.1 q) (eqb_tells x y)
       where
@@ -110,23 +107,20 @@ module _ (x : ℕ) where
     assigned_has : (y : ℕ) (v : Value) (s : State) → occurrences x (y ∷ []) ≡ 0 → Has s → Has (assigned s y v)
     assigned_has y v s h i = assigned-other s y x v (not_target y h) ∙ i
 
+    abbrev Nothing : State → Option Value → Type 0
+    Nothing s v = Unit {0}
+
+    -- what was given is assigned to another variable
     assign_has : (y : ℕ) (o : Option Value) (s : State) (w : Outside) → occurrences x (y ∷ []) ≡ 0 → Has s →
-        OnGives After (assign y o s w)
-    assign_has y o s w h i =
-        OnGives-given After o (λ v. Gives (assigned s y v) w Falls) (λ v q. (assigned_has y v s h i, tt))
+        OnGives (Kept Has Nothing) (assign y o s w)
+    assign_has y o s w h i = assign-keeps Has Nothing y o s w (λ v e. assigned_has y v s h i)
 
-    store_has : (t : Option Store) (s : State) (w : Outside) → Has s → OnGives After (with_store t s w)
-    store_has t s w i = OnGives-given After t (λ t. Gives (record s { store = t }) w Falls) (λ t q. (i, tt))
+    result_not : (y : Option ℕ) (f : ℕ) (vs : List Atom) → IsNoTarget x (c.Call y f vs) → (z : ℕ) → y ≡ Some z →
+        occurrences x (z ∷ []) ≡ 0
+    result_not None f vs h z e = absurd (none-some z e)
+    result_not (Some y) f vs h z e = subst (λ z. occurrences x (z ∷ []) ≡ 0) (same_Some y z e) h
 
-    put_has : (v : Value) (s : State) (w : Outside) → Has s → OnGives After (put_value v s w)
-    put_has (Number n) s w i = OnGives-tick After _ (λ w. Gives s w Falls) (λ u. (i, tt))
-    put_has (Pointer r o) s w i = tt
-
-    exit_has : (v : Value) (s : State) (w : Outside) → OnGives After (exit_value v s w)
-    exit_has (Number n) s w = tt
-    exit_has (Pointer r o) s w = tt
-
-    plain_has : (a : Core) → IsPlainAct a → IsNoTarget x a → KeepsState Has (λ s v. Unit {0}) (act call e a)
+    plain_has : (a : Core) → IsPlainAct a → IsNoTarget x a → KeepsState Has Nothing (act call e a)
     plain_has (c.Move y v) p h s w i = (assigned_has y (value_of_atom e s v) s h i, tt)
     plain_has (c.Operate y op a b) p h s w i =
         assign_has y (value_of_operation s.store op (value_of_atom e s a) (value_of_atom e s b)) s w h i
@@ -134,31 +128,17 @@ module _ (x : ℕ) where
         assign_has y (value_of_pointers s.store op (value_of_atom e s a) (value_of_atom e s b)) s w h i
     plain_has (c.Load y k a) p h s w i = assign_has y (load s.store k (value_of_atom e s a)) s w h i
     plain_has (c.Store k a b) p h s w i =
-        store_has (write s.store k (value_of_atom e s a) (value_of_atom e s b)) s w i
+        with_store-keeps Has Nothing (write s.store k (value_of_atom e s a) (value_of_atom e s b)) s w (λ t q. i)
     plain_has (c.Enter y) p h s w i = (i, tt)
     plain_has (c.Fill y) p h s w i = (i, tt)
     plain_has (c.Copy a b n k) p h s w i =
-        store_has (copied s.store (value_of_atom e s a) (value_of_atom e s b) n k) s w i
-    plain_has (c.Call None f vs) p h s w i =
-        let j : Invocation = record { function = f; arguments = values_of_atoms e s vs; stack = e.stack; store = s.store } in
-        OnGives-tick After w _ (λ w. OnGives-then (λ t v. Unit {0}) After (call j w) _ (anything (call j w)) (λ t w v m. (i, tt)))
-      where
-        anything : (r : Run Store (Option Value)) → OnGives (λ t v. Unit {0}) r
-        anything (Gives t w v) = tt
-        anything (Ends d w) = tt
-        anything Undefined = tt
-    plain_has (c.Call (Some y) f vs) p h s w i =
-        let j : Invocation = record { function = f; arguments = values_of_atoms e s vs; stack = e.stack; store = s.store } in
-        OnGives-tick After w _ (λ w. OnGives-then (λ t v. Unit {0}) After (call j w) _ (anything (call j w)) (λ t w v m. assign_has y v (record s { store = t }) w h i))
-      where
-        anything : (r : Run Store (Option Value)) → OnGives (λ t v. Unit {0}) r
-        anything (Gives t w v) = tt
-        anything (Ends d w) = tt
-        anything Undefined = tt
+        with_store-keeps Has Nothing (copied s.store (value_of_atom e s a) (value_of_atom e s b) n k) s w (λ t q. i)
+    plain_has (c.Call y f vs) p h s w i =
+        call-keeps Has Nothing call e y f vs s w (λ t v. Unit {0}) (λ w. OnGives-any (call _ w)) (λ t v m. i) (λ t z v q m j. assigned_has z v (record s { store = t }) (result_not y f vs h z q) j)
     plain_has (c.Get y) p h s w i =
-        OnGives-tick After _ (λ u. Gives (assigned s y (Number (next_word w.input))) u Falls) (λ u. (assigned_has y (Number (next_word w.input)) s h i, tt))
-    plain_has (c.Put v) p h s w i = put_has (value_of_atom e s v) s w i
-    plain_has (c.Exit v) p h s w i = exit_has (value_of_atom e s v) s w
+        get-keeps Has Nothing y s w (assigned_has y (Number (next_word w.input)) s h i)
+    plain_has (c.Put v) p h s w i = put_value-keeps Has Nothing (value_of_atom e s v) s w i
+    plain_has (c.Exit v) p h s w i = exit_value-keeps Has Nothing (value_of_atom e s v) s w
     plain_has (c.Block' n all) p h s w i = absurd p
     plain_has (c.Loop' n all) p h s w i = absurd p
     plain_has (c.Break k) p h s w i = (i, tt)
