@@ -11,6 +11,7 @@ use Rattle.core_lang.specs.declared.program.CoreFunction.{CoreFunction}
 use Rattle.core_lang.specs.declared.program.Program.{Program}
 use Rattle.core_lang.specs.declared.program.StaticObject.{StaticObject}
 use Rattle.core_lang.specs.WellFormed.{AreActsIn, IsActIn, IsUnits, IsFunctionIn, IsMain, ArePartsIn, IsWellFormed, places_in}
+use Rattle.core_lang.specs.Counts.{count_of_acts, assigned_below, bytes_of_objects}
 use Rattle.core_lang.specs.Addresses.{LieApart, IsLayoutOf}
 use Rattle.core_lang.specs.Examples.{computed, spacious, down, own, swap, objects, program, sum}
 
@@ -184,3 +185,25 @@ units_of_four_ill h = omega (arith, h.whole)
 
 pub units_of_two : IsUnits 6 2
 units_of_two = record { unit = inr (inl refl); count = 3; some = omega arith; whole = refl }
+
+-- ---- counts
+
+-- four acts in a row of which one is a loop of two, of which one is a choice of four and one
+pub sum_counts : count_of_acts (8 ∷ 8 ∷ 4 ∷ []) sum ≡ 11
+unfolding computed sum
+sum_counts = refl
+
+pub sum_assigns : assigned_below 4 sum ≡ 2
+unfolding computed sum
+sum_assigns = refl
+
+-- 7 bytes are filled by a word, a half word and a byte, and copied by a load and a store each
+pub fill_counts : count_of_acts (7 ∷ []) (c.Fill 0 ∷ []) ≡ 3
+fill_counts = refl
+
+pub copy_counts : count_of_acts [] (c.Copy (at.Global 0) (at.Global 1) 7 1 ∷ []) ≡ 14
+copy_counts = refl
+
+-- objects of 8, 8 and 4 bytes take 16 each
+pub objects_take : bytes_of_objects (8 ∷ 8 ∷ 4 ∷ []) ≡ 48
+objects_take = refl

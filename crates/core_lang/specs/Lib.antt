@@ -5,6 +5,7 @@ pub mod Acts
 pub mod Run
 pub mod Depth
 pub mod WellFormed
+pub mod Counts
 pub mod Following
 pub mod Addresses
 pub mod Laws

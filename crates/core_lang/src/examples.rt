@@ -5,9 +5,12 @@ ghost use Rattle.word_ops.specs.Run.{End};
 ghost use Rattle.core_lang.specs.declared.program.CoreFunction.{CoreFunction};
 ghost use Rattle.core_lang.specs.declared.program.Program.{Program};
 ghost use Rattle.core_lang.specs.WellFormed.{AreActsIn, places_in, IsUnits, IsWellFormed};
+ghost use Rattle.core_lang.specs.Counts.{count_of_acts, assigned_below, bytes_of_objects};
 ghost use Rattle.core_lang.specs.Addresses.{IsLayoutOf};
 ghost use Rattle.core_lang.specs.Examples.{adds, breaks, compares, copies, copies_bytes, copies_on, divides, drops_nothing, echoes, ends, enters_other, enters_twice, falls, fills, follows_table, forever, is_null, keeps_dead, moves, nested_loops, outcome, program, puts_and_exits, puts_pointer, reads_dead, reads_new, reads_string, recursion, returns_large, shifts, spacious, starts_as_zero, sum, swapped, swaps, through_null, undefined, uses_nothing, writes_string, writes_table};
 ghost use Rattle.core_lang.specs.Instances.{behind_branch, in_branch, in_both, out_of_one, out_of_two};
+
+use crate::act::{Atom, Core};
 
 /// Loops, blocks and breaks: where a loop ends, what a clock cuts, and what a break leaves.
 pub fn loops_and_breaks()
@@ -105,4 +108,13 @@ pub fn well_formed_programs()
     ensures break_out_of_two { (p : Program) (g : CoreFunction) → AreActsIn p g 0 [] out_of_two }
     ensures six_in_fours { IsUnits 6 4 → ⊥ }
     ensures six_in_twos { IsUnits 6 2 }
+{}
+
+/// Counts: of the acts of the sum and its variables, of a fill and a copy of 7 bytes, and of the bytes of objects.
+pub fn counts()
+    ensures sum_counts { count_of_acts (8 ∷ 8 ∷ 4 ∷ []) sum ≡ 11 }
+    ensures sum_assigns { assigned_below 4 sum ≡ 2 }
+    ensures fill_counts { count_of_acts (7 ∷ []) (Core.Fill 0 ∷ []) ≡ 3 }
+    ensures copy_counts { count_of_acts [] (Core.Copy (Atom.Global 0) (Atom.Global 1) 7 1 ∷ []) ≡ 14 }
+    ensures objects_take { bytes_of_objects (8 ∷ 8 ∷ 4 ∷ []) ≡ 48 }
 {}

@@ -1,8 +1,9 @@
 //! Laws of the definitions that contracts cite. The functions do nothing: each is here for what its contract says, and
 //! the lemmas that other crates' proofs cite stand in `specs/Laws`.
-ghost use Rattle.std.specs.Prelude.{◌≡◌, ◌≢◌, ℕ, ◌+◌, ◌≤◌, List, ◌++◌, Option, Some, None, slice_get};
+ghost use Rattle.std.specs.Prelude.{◌≡◌, ◌≢◌, ℕ, ◌+◌, ◌≤◌, List, ◌++◌, Some, None, false, slice_get, length};
 ghost use Rattle.word_ops.specs.Store.{Value, Store};
-ghost use Rattle.word_ops.specs.Changes.{SameRegions};
+ghost use Rattle.word_ops.specs.Access.{copy};
+ghost use Rattle.word_ops.specs.Changes.{SameRegions, Fades};
 ghost use Rattle.word_ops.specs.Run.{Outside, Run, End, then_do, after_turn};
 ghost use Rattle.word_ops.specs.Clock.{Reaches, IsTimed};
 ghost use Rattle.word_ops.specs.Outcome.{Outcome, IsFurther, IsWithinClock};
@@ -11,12 +12,14 @@ ghost use Rattle.core_lang.specs.declared.act.Core.{Core};
 ghost use Rattle.core_lang.specs.declared.program.CoreFunction.{CoreFunction};
 ghost use Rattle.core_lang.specs.declared.program.Program.{Program};
 ghost use Rattle.core_lang.specs.Layout.{Layout};
-ghost use Rattle.core_lang.specs.State.{State, Activation, value_of_atom};
+ghost use Rattle.core_lang.specs.State.{State, Activation, value_of_atom, argument};
 ghost use Rattle.core_lang.specs.Acts.{Invocation, Calls, in_turn, as_block, as_loop, by_truth, turn_of, act, acts};
 ghost use Rattle.core_lang.specs.Run.{calls, first_call, program_from, run_of_core};
 ghost use Rattle.core_lang.specs.Depth.{GoesDeeper};
 ghost use Rattle.core_lang.specs.Following.{OnGives};
-ghost use Rattle.core_lang.specs.WellFormed.{AreActsIn, assigned_behind, places_in, IsWellFormed};
+ghost use Rattle.core_lang.specs.Copying.{overlap_in_part, copied};
+ghost use Rattle.core_lang.specs.Counts.{count_of_acts};
+ghost use Rattle.core_lang.specs.WellFormed.{IsUnits, AreActsIn, assigned_behind, places_in, IsWellFormed};
 ghost use Rattle.core_lang.specs.Addresses.{IsLayoutOf, KeepsAddresses, IsCallable};
 
 use crate::act::Core;
@@ -37,13 +40,33 @@ pub fn acts_in_lists()
         as_loop go s w ≡ then_do (turn_of go s w) (λ s w t. after_turn t (as_loop go s) s w) }
 {}
 
+/// Variables: as a function begins its parameters have the arguments and all others are 0, and acts leave the value of
+/// each variable and temporary that they assign in no place.
+pub fn variables_of_acts()
+    ensures arguments { (vs : List Value) (x : ℕ) (v : Value) → slice_get vs x ≡ Some v → argument vs x ≡ v }
+    ensures others { (vs : List Value) (x : ℕ) → length vs ≤ x → argument vs x ≡ Value.Number 0 }
+    ensures unassigned { (call : Calls) (e : Activation) (x : ℕ) (xs : List Core) → places_in x xs ≡ 0 → (s : State)
+        (w : Outside) → OnGives (λ (t : State) f. t.vars x ≡ s.vars x) (acts call e xs s w) }
+{}
+
+/// Copies: one by units is the copy of all cells, but for cells that it makes Unset, and is defined where that is and the
+/// ranges do not overlap in part.
+pub fn copies_by_units()
+    ensures cells { (s t : Store) (p q : Value) (n a : ℕ) → IsUnits n a → copied s p q n a ≡ Some t →
+        (u : Store) × (copy s p q n a ≡ Some u) × Fades u t }
+    ensures defined { (s u : Store) (p q : Value) (n a : ℕ) → IsUnits n a → overlap_in_part p q n ≡ false →
+        copy s p q n a ≡ Some u → (t : Store) × (copied s p q n a ≡ Some t) × Fades u t }
+{}
+
 /// Well-formed acts: two lists are well formed one behind the other where the second is so behind what the first
-/// assigns, and a number is assigned in the places of both.
+/// assigns, a number is assigned in the places of both, and the lists count for what both count for.
 pub fn well_formed_lists()
     ensures append { (p : Program) (g : CoreFunction) (k : ℕ) (ts : List ℕ) (xs ys : List Core) →
         AreActsIn p g k ts xs → AreActsIn p g k (assigned_behind xs ts) ys → AreActsIn p g k ts (xs ++ ys) }
     ensures split { (p : Program) (g : CoreFunction) (k : ℕ) (ts : List ℕ) (xs ys : List Core) →
         AreActsIn p g k ts (xs ++ ys) → AreActsIn p g k ts xs × AreActsIn p g k (assigned_behind xs ts) ys }
+    ensures counts { (sizes : List ℕ) (xs ys : List Core) →
+        count_of_acts sizes (xs ++ ys) ≡ count_of_acts sizes xs + count_of_acts sizes ys }
     ensures places { (x : ℕ) (xs ys : List Core) → places_in x (xs ++ ys) ≡ places_in x xs + places_in x ys }
 {}
 
