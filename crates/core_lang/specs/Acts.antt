@@ -1,10 +1,9 @@
 -- What acts do.
-use Rattle.std.specs.Prelude.{ℕ, zero, suc, ◌+◌, ◌%◌, Bool, true, false, List, [], ◌∷◌, Option, Some, None}
+use Rattle.std.specs.Prelude.{ℕ, zero, suc, ◌+◌, List, [], ◌∷◌, Option, Some, None}
 use Rattle.word_ops.specs.Store.{Value, Number, Pointer, Unset, Byte, Store, refill_region}
 use Rattle.word_ops.specs.Access.{load, write}
 use Rattle.word_ops.specs.Values.{value_of_operation, truth, moved_pointer, pointer_difference, equal_pointers, pointer_before, pointer_at_most}
-use Rattle.word_ops.specs.Run.{Outside, Run, Gives, Ends, Undefined, then_do, given, branch, tick, Turn, Again, Over, loop, put_byte, get_byte, exit_with}
-use Rattle.core_lang.specs.declared.act.Atom.{Atom}
+use Rattle.word_ops.specs.Run.{Outside, Run, Gives, Undefined, then_do, given, branch, tick, Turn, Again, Over, loop, put_byte, get_byte, exit_with}
 use Rattle.core_lang.specs.declared.act.PointerOp.{PointerOp}
 use Rattle.core_lang.specs.declared.act.PointerOp.TheVariants.{Offset, Difference, Equal, Before, AtMost}
 use Rattle.core_lang.specs.declared.act.Core.{Core, Row_of-Core, end_of-Core, more_of-Core}

@@ -1,8 +1,8 @@
 -- What a copy does to cells. It goes in units of the alignment, each of which a machine loads and stores as one word.
-use Rattle.std.specs.Prelude.{ℕ, zero, suc, ◌+◌, ◌/◌, Bool, true, false, not, ◌&&◌, ◌||◌, ◌==◌, nat_le, List, [], ◌∷◌, ◌++◌, take, drop, map, Option, Some, None}
+use Rattle.std.specs.Prelude.{ℕ, zero, suc, ◌+◌, ◌/◌, Bool, false, not, ◌&&◌, ◌||◌, ◌==◌, nat_le, List, [], ◌++◌, take, drop, map, Option, Some, None}
 use Rattle.std.specs.Option.{option_map, option_and_then}
 use Rattle.word_ops.specs.Choice.{when}
-use Rattle.word_ops.specs.Store.{Value, Number, Pointer, Cell, Unset, Byte, Part, Store}
+use Rattle.word_ops.specs.Store.{Value, Pointer, Cell, Unset, Byte, Store}
 use Rattle.word_ops.specs.Access.{pointer_in, cells_from, put_cells, is_constant}
 
 -- a byte alone: what is no byte becomes Unset

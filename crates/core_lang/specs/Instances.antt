@@ -1,5 +1,5 @@
 -- What the laws ask can be met: the program of the examples is well formed, and its layout keeps its objects apart.
-use Rattle.std.specs.Prelude.{◌≡◌, ◌≢◌, ℕ, zero, suc, ◌+◌, ◌*◌, ◌-◌, ◌^◌, ◌<◌, ◌≤◌, ◌⊎◌, ◌==◌, Bool, true, false, List, [], ◌∷◌, length, Option, Some, None, slice_get}
+use Rattle.std.specs.Prelude.{◌≡◌, ◌≢◌, ℕ, zero, suc, ◌+◌, ◌*◌, ◌<◌, ◌≤◌, ◌==◌, List, [], ◌∷◌, Some, slice_get}
 use Rattle.std.proofs.Common.{refl, sym, ap, ◌∙◌, subst, arith, inl, inr, ⊎_elim}
 use Rattle.std.proofs.lemmas.Bool.Decides.{eqb_tells}
 use Rattle.std.proofs.lemmas.Option.{none-some, same_Some}
@@ -10,7 +10,7 @@ use Rattle.core_lang.specs.declared.act.Core.TheVariants as c
 use Rattle.core_lang.specs.declared.program.CoreFunction.{CoreFunction}
 use Rattle.core_lang.specs.declared.program.Program.{Program}
 use Rattle.core_lang.specs.declared.program.StaticObject.{StaticObject}
-use Rattle.core_lang.specs.WellFormed.{AreActsIn, IsActIn, IsUnits, IsFunctionIn, IsMain, ArePartsIn, IsWellFormed, places_in}
+use Rattle.core_lang.specs.WellFormed.{AreActsIn, IsUnits, IsFunctionIn, ArePartsIn, IsWellFormed, places_in}
 use Rattle.core_lang.specs.Counts.{count_of_acts, assigned_below, bytes_of_objects}
 use Rattle.core_lang.specs.Addresses.{LieApart, IsLayoutOf}
 use Rattle.core_lang.specs.Examples.{computed, spacious, down, own, swap, objects, program, sum}
@@ -119,7 +119,7 @@ sizes_small f g x n e h =
     at_each (λ f g. (x n : ℕ) → slice_get g.locals x ≡ Some n → n ≤ 8) (program sum).functions f g ((λ x n h. at_each (λ x n. n ≤ 8) (8 ∷ 8 ∷ 4 ∷ []) x n (omega arith, (omega arith, (omega arith, tt))) h), ((λ x n h. absurd (none-some n h)), ((λ x n h. at_each (λ x n. n ≤ 8) (4 ∷ []) x n (omega arith, tt) h), ((λ x n h. absurd (none-some n h)), tt)))) e x n h
 
 pub sum_laid_out : IsLayoutOf spacious (program sum) 200
-unfolding computed spacious program sum down own swap objects
+unfolding computed program sum down own swap objects
 sum_laid_out = record {
   bottom = 65664;
   largest = 64;

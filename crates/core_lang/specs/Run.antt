@@ -1,8 +1,8 @@
 -- What a call of a core function does, and the run of a program.
-use Rattle.std.specs.Prelude.{ℕ, ◌+◌, ◌-◌, ◌==◌, false, List, [], ◌∷◌, ◌++◌, length, Option, Some, None, slice_get}
+use Rattle.std.specs.Prelude.{ℕ, ◌+◌, ◌-◌, ◌==◌, false, List, [], ◌∷◌, ◌++◌, length, Option, None, slice_get}
 use Rattle.word_ops.specs.Store.{Value, Cell, Byte, Region, Store, new_region, unset_cells, zero_cells, end_regions}
 use Rattle.word_ops.specs.Access.{pointer_cells, with_cells}
-use Rattle.word_ops.specs.Run.{Outside, Run, Gives, Ends, Undefined, then_do, given, branch, nested, end_of_main}
+use Rattle.word_ops.specs.Run.{Outside, Run, Gives, Undefined, then_do, given, branch, nested, end_of_main}
 use Rattle.word_ops.specs.Outcome.{Outcome, outcome_of, start}
 use Rattle.core_lang.specs.declared.program.CoreFunction.{CoreFunction}
 use Rattle.core_lang.specs.declared.program.Part.{Part}

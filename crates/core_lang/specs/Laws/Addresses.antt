@@ -1,22 +1,22 @@
 -- Laws of addresses: with a layout that keeps the objects of a program apart, each store of its runs is addressed, and each
 -- value is one of its store.
-use Rattle.std.proofs.Common.{◌≡◌, ◌≢◌, refl, sym, ap, ◌∙◌, subst, ℕ, zero, suc, ◌+◌, ◌*◌, ◌-◌, ◌≤◌, ◌<◌, ◌⊎◌, inl, inr, ⊎_elim, List, [], ◌∷◌, ◌++◌, length, arith, length-append}
+use Rattle.std.proofs.Common.{◌≡◌, refl, sym, ap, ◌∙◌, subst, ℕ, zero, suc, ◌+◌, ◌*◌, ◌≤◌, ◌<◌, ◌⊎◌, inl, inr, ⊎_elim, List, [], ◌∷◌, ◌++◌, length, arith, length-append}
 use Rattle.std.proofs.Math.Nat.{suc-mul}
 use Rattle.std.proofs.lemmas.List.{length-replicate}
 use Rattle.std.proofs.lemmas.Option.{none-some, same_Some, slice_get_within}
-use Rattle.std.specs.Prelude.{Option, Some, None, Bool, true, false, ◌/◌, ◌^◌, ◌==◌, if◌then◌else◌, take, drop, map, slice_get}
+use Rattle.std.specs.Prelude.{Option, Some, None, true, false, ◌/◌, ◌^◌, ◌==◌, if◌then◌else◌, take, drop, map, slice_get}
 use Rattle.std.specs.Option.{option_map}
 use Rattle.word_ops.specs.declared.operation.Op.TheVariants.{Add, Sub, Eq, Ltu, Leu}
 use Rattle.word_ops.specs.Store.{Value, Number, Pointer, Cell, Unset, Byte, Part, Region, Store, Shape, shape, shape_at, new_region, unset_cells, end_region, end_regions, refill_region}
 use Rattle.word_ops.specs.Access.{load, write, pointer_in}
-use Rattle.word_ops.specs.Values.{value_of_operation, moved_pointer, pointer_difference, equal_pointers, pointer_before, pointer_at_most}
-use Rattle.word_ops.specs.Addresses.{IsOffsetIn, IsValueIn, AreCellsIn, AreApart, IsAddressed, AreNewTo}
+use Rattle.word_ops.specs.Values.{value_of_operation}
+use Rattle.word_ops.specs.Addresses.{IsOffsetIn, IsValueIn, AreCellsIn, IsAddressed, AreNewTo}
 use Rattle.word_ops.specs.Changes.{SameRegions, SameShapes}
-use Rattle.word_ops.specs.Run.{Outside, Run, Gives, Ends, Undefined, next_word}
-use Rattle.word_ops.specs.Laws.Lists.{slice_get-there, slice_get-append_some, slice_get-append_behind}
+use Rattle.word_ops.specs.Run.{Outside, next_word}
+use Rattle.word_ops.specs.Laws.Lists.{slice_get-there, slice_get-append_some}
 use Rattle.word_ops.specs.Laws.Regions.{shape_at-region, shape_at-some, change_region-at, end_regions-live, refill_region-shapes, SameRegions-refl, SameRegions-trans, SameRegions-append, SameRegions-ends, SameRegions-length, SameShapes-regions}
 use Rattle.word_ops.specs.Laws.Accesses.{write-shapes}
-use Rattle.word_ops.specs.Laws.Addresses.{AreCellsIn-same, AreCellsIn-replicate, cells_from-in, load-in, IsAddressed-puts, IsAddressed-write, IsAddressed-refill, IsAddressed-ends, IsAddressed-append}
+use Rattle.word_ops.specs.Laws.Addresses.{AreCellsIn-replicate, cells_from-in, load-in, IsAddressed-puts, IsAddressed-write, IsAddressed-refill, IsAddressed-ends, IsAddressed-append}
 use Rattle.word_ops.specs.Laws.Values.{IsValueIn-same, moved_pointer-operation, pointer_difference-operation, equal_pointers-operation, pointer_before-operation, pointer_at_most-operation}
 use Rattle.word_ops.specs.Laws.Words.{operation-in}
 use Rattle.word_ops.specs.Laws.Runs.{next_word-in}
@@ -29,13 +29,13 @@ use Rattle.core_lang.specs.declared.act.Core.TheVariants as c
 use Rattle.core_lang.specs.declared.program.CoreFunction.{CoreFunction}
 use Rattle.core_lang.specs.declared.program.Program.{Program}
 use Rattle.core_lang.specs.Layout.{Layout}
-use Rattle.core_lang.specs.State.{State, Activation, value_of_atom, value_of_option, values_of_atoms, assigned, argument}
+use Rattle.core_lang.specs.State.{State, Activation, value_of_atom, values_of_atoms, assigned, argument}
 use Rattle.core_lang.specs.Copying.{only_byte, cells_of_unit, in_units, copied}
-use Rattle.core_lang.specs.Acts.{Invocation, Calls, Flow, Falls, Leaves, Returned, assign, assign_result, with_store, value_of_pointers, put_value, exit_value, act, acts}
-use Rattle.core_lang.specs.Run.{local_regions, frame_of, activation_of, first_state, value_given_back, run_body, run_function, calls}
+use Rattle.core_lang.specs.Acts.{Invocation, Calls, Flow, Falls, Leaves, Returned, assign, with_store, value_of_pointers, act, acts}
+use Rattle.core_lang.specs.Run.{local_regions, frame_of, activation_of, first_state, value_given_back, run_body, calls}
 use Rattle.core_lang.specs.Following.{IsPlainAct, EachAct, EachInRow, EachOf, OnGives, OnReturned, KeepsState}
-use Rattle.core_lang.specs.WellFormed.{targets, IsAtomIn, AreAtomsIn, IsActIn, IsRowIn, AreActsIn, IsFunctionIn, IsWellFormed}
-use Rattle.core_lang.specs.Addresses.{LieApart, IsLayoutOf, IsFree, NoneLiveBehind, AreValuesIn, IsOptionIn, IsSound, KeepsAddresses, IsCallable}
+use Rattle.core_lang.specs.WellFormed.{targets, IsAtomIn, AreAtomsIn, IsActIn, IsRowIn, AreActsIn, IsWellFormed}
+use Rattle.core_lang.specs.Addresses.{IsLayoutOf, IsFree, NoneLiveBehind, AreValuesIn, IsOptionIn, IsSound, KeepsAddresses, IsCallable}
 use Rattle.core_lang.specs.Laws.Keeping.{OnGives-then, OnGives-given, Kept, assign-keeps, with_store-keeps, put_value-keeps, exit_value-keeps, get-keeps, call-keeps, acts-keep}
 use Rattle.core_lang.specs.Laws.Regions.{copied-some, copied-shapes, OnGives-branch}
 

@@ -1,11 +1,11 @@
 -- Laws of the clock: acts, calls and programs take of the outside alone, and with a longer clock each is the same run,
 -- further (`IsTimed` of word_ops).
-use Rattle.std.proofs.Common.{◌≡◌, refl, ℕ, zero, suc, ◌+◌}
+use Rattle.std.proofs.Common.{◌≡◌, ℕ, ◌+◌}
 use Rattle.std.specs.Prelude.{Option, Some, None, List, [], ◌∷◌, length, ◌==◌, slice_get}
 use Rattle.word_ops.specs.Store.{Value, Number, Pointer, Store, Unset, Byte, refill_region}
 use Rattle.word_ops.specs.Access.{load, write}
 use Rattle.word_ops.specs.Values.{value_of_operation, truth}
-use Rattle.word_ops.specs.Run.{Outside, Run, Gives, Ends, Undefined, then_do, given, after_turn}
+use Rattle.word_ops.specs.Run.{Outside, Gives, Undefined, then_do, after_turn}
 use Rattle.word_ops.specs.Clock.{IsTimed}
 use Rattle.word_ops.specs.Laws.Clock.{IsTimed-Gives, IsTimed-exit, IsTimed-undefined, IsTimed-given, IsTimed-branch, IsTimed-then, IsTimed-tick, IsTimed-put_byte, IsTimed-get_byte, IsTimed-loop, loop-first, IsTimed-nested, IsTimed-main}
 use Rattle.core_lang.specs.declared.act.Core.{Core, Row_of-Core, end_of-Core, more_of-Core}

@@ -1,22 +1,22 @@
 -- Laws of copies: a copy by units is the copy of all cells, but for cells that it makes Unset.
-use Rattle.std.proofs.Common.{◌≡◌, refl, sym, ap, ◌∙◌, subst, ℕ, zero, suc, ◌+◌, ◌*◌, ◌-◌, ◌<◌, ◌⊎◌, ⊎_elim, List, [], ◌∷◌, ◌++◌, length, take, drop, arith, length-drop}
+use Rattle.std.proofs.Common.{◌≡◌, refl, sym, ap, ◌∙◌, subst, ℕ, zero, suc, ◌*◌, ◌<◌, ⊎_elim, List, [], ◌∷◌, ◌++◌, length, take, drop, arith, length-drop}
 use Rattle.std.proofs.Math.Nat.{suc-mul, mul-div_cancel}
 use Rattle.std.proofs.lemmas.List.{take-append-drop}
 use Rattle.std.proofs.lemmas.Option.{same_Some}
-use Rattle.std.specs.Prelude.{Option, Some, None, true, false, not, ◌||◌, ◌/◌, map, slice_set}
+use Rattle.std.specs.Prelude.{Option, Some, None, false, not, ◌||◌, ◌/◌, map, slice_set}
 use Rattle.std.specs.Option.{option_map, option_and_then}
 use Rattle.word_ops.specs.Choice.{only_if, when}
 use Rattle.word_ops.specs.Store.{Value, Cell, Unset, Byte, Part, Store}
-use Rattle.word_ops.specs.Access.{pointer_in, may_access, cells_from, with_cells, put_in, put_cells, is_constant, initialise_from, copy}
+use Rattle.word_ops.specs.Access.{pointer_in, may_access, cells_from, with_cells, put_in, put_cells, initialise_from, copy}
 use Rattle.word_ops.specs.Changes.{CellsFade, Fades}
-use Rattle.word_ops.specs.Laws.Accesses.{Puts, copy-some, initialise_from-some}
+use Rattle.word_ops.specs.Laws.Accesses.{copy-some, initialise_from-some}
 use Rattle.word_ops.specs.Laws.Fading.{CellsFade-refl}
 use Rattle.word_ops.specs.Laws.FadedStores.{Fades-refl, Fades-puts}
 use Rattle.word_ops.specs.Laws.Loads.{length-cells_from}
 use Rattle.word_ops.specs.Laws.Regions.{length-CellsFade}
 use Rattle.core_lang.specs.Copying.{only_byte, cells_of_unit, in_units, overlap_in_part, copied}
 use Rattle.core_lang.specs.WellFormed.{IsUnits}
-use Rattle.core_lang.specs.Laws.Regions.{Copies, copied-some}
+use Rattle.core_lang.specs.Laws.Regions.{copied-some}
 
 -- ---- cells
 
@@ -79,4 +79,4 @@ copy-copied s u p q n a units apart e =
     let put : put_cells s p a ds ≡ Some t = ap (λ p. put_cells s p a ds) h.pointer ∙ ap (put_in s h.region h.offset a ds) h.at ∙ ap (λ m. only_if (may_access h.object m a h.offset) t) same ∙ ap (λ b. only_if b t) h.access in
     let here : copied s p q n a ≡ Some t = ap (λ b. when (not (b || overlap_in_part p q n)) (option_and_then (put_cells s p a) (option_map (in_units (n / a) a) (cells_from s q n a)))) w.0 ∙ ap (λ b. when (not b) (option_and_then (put_cells s p a) (option_map (in_units (n / a) a) (cells_from s q n a)))) apart ∙ ap (λ o. option_and_then (put_cells s p a) (option_map (in_units (n / a) a) o)) c.1 ∙ put in
     let back = copied-copy s t p q n a units here in
-    (t, here, subst (λ u. Fades u t) (same_Some back.0 u (sym back.1 ∙ e)) back.2)
+    (t, here, subst (λ u. Fades u t) (same_Some back.0 u (sym {b = Some back.0} back.1 ∙ e)) back.2)

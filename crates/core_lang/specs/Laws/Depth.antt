@@ -1,10 +1,9 @@
 -- Laws of the depth: with more depth a run is the same where it was not too deep, and goes on from there where it was.
-use Rattle.std.proofs.Common.{◌≡◌, refl, sym, ap, ◌∙◌, subst, ℕ, zero, suc, ◌+◌, ◌≤◌, ◌<◌, arith}
+use Rattle.std.proofs.Common.{◌≡◌, refl, sym, ap, subst, ℕ, zero, suc, ◌≤◌, ◌<◌, arith}
 use Rattle.std.specs.Prelude.{Option, Some, None, Bool, true, false, List, [], ◌∷◌, length, ◌==◌, slice_get}
-use Rattle.word_ops.specs.Store.{Value, Number, Pointer, Store, Unset, Byte, refill_region}
-use Rattle.word_ops.specs.Access.{load, write}
-use Rattle.word_ops.specs.Values.{value_of_operation, truth}
-use Rattle.word_ops.specs.Run.{Outside, Exit, Deep, More, Run, Gives, Ends, Undefined, then_do, given, branch, tick_from, tick, Turn, Again, Over, after_turn, loop, nested, end_of_main}
+use Rattle.word_ops.specs.Store.{Value, Number, Pointer}
+use Rattle.word_ops.specs.Values.{truth}
+use Rattle.word_ops.specs.Run.{Outside, Exit, Deep, More, Run, Gives, Ends, Undefined, then_do, given, branch, tick_from, tick, Turn, Again, Over, after_turn, loop, end_of_main}
 use Rattle.word_ops.specs.Clock.{RunReaches, IsTimed}
 use Rattle.word_ops.specs.Laws.Clock.{Reaches-refl, RunReaches-earlier, IsTimed-Gives, IsTimed-then, IsTimed-tick, IsTimed-loop, loop-first}
 use Rattle.core_lang.specs.declared.act.Core.{Core, Row_of-Core, end_of-Core, more_of-Core}
@@ -13,10 +12,10 @@ use Rattle.core_lang.specs.declared.program.CoreFunction.{CoreFunction}
 use Rattle.core_lang.specs.declared.program.Program.{Program}
 use Rattle.core_lang.specs.Layout.{Layout}
 use Rattle.core_lang.specs.State.{State, Activation, value_of_atom, values_of_atoms}
-use Rattle.core_lang.specs.Acts.{Invocation, Calls, Flow, Falls, Leaves, Returned, Does, assign_result, behind, in_turn, out_of_block, as_block, out_of_turn, turn_of, as_loop, by_truth, act, row, acts}
-use Rattle.core_lang.specs.Run.{calls, call_of, run_function, run_body, activation_of, first_state, value_given_back, program_from, first_call}
+use Rattle.core_lang.specs.Acts.{Invocation, Calls, Flow, Falls, Leaves, Returned, Does, assign_result, behind, in_turn, out_of_block, out_of_turn, turn_of, act, row, acts}
+use Rattle.core_lang.specs.Run.{calls, activation_of, first_state, value_given_back, program_from, first_call}
 use Rattle.core_lang.specs.Depth.{GoesDeeper}
-use Rattle.core_lang.specs.Laws.Clock.{IsTimed-assign_result, IsTimed-behind, IsTimed-act, IsTimed-row, IsTimed-acts, IsTimed-calls}
+use Rattle.core_lang.specs.Laws.Clock.{IsTimed-assign_result, IsTimed-behind, IsTimed-row, IsTimed-acts, IsTimed-calls}
 
 -- ---- the ways to put runs together
 

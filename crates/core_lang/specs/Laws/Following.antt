@@ -1,9 +1,9 @@
 -- Induction over acts: where each act without acts in it does in one state what it does in another, so do all acts.
-use Rattle.std.proofs.Common.{◌≡◌, refl, ap, ℕ, zero, suc}
-use Rattle.std.specs.Prelude.{Option, Some, None, Bool, List, [], ◌∷◌}
+use Rattle.std.proofs.Common.{◌≡◌, refl, ℕ, zero, suc}
+use Rattle.std.specs.Prelude.{Option, Some, Bool, List, [], ◌∷◌}
 use Rattle.word_ops.specs.Store.{Value}
 use Rattle.word_ops.specs.Values.{truth}
-use Rattle.word_ops.specs.Run.{Outside, Run, Gives, Again, Over}
+use Rattle.word_ops.specs.Run.{Outside, Gives, Again, Over}
 use Rattle.word_ops.specs.Following.{Follows, TurnsAlike}
 use Rattle.word_ops.specs.Laws.Runs.{Follows-then, Follows-given_both, Follows-branch, Follows-loop}
 use Rattle.core_lang.specs.declared.act.Atom.{Atom}
@@ -11,7 +11,7 @@ use Rattle.core_lang.specs.declared.act.Core.{Core, Row_of-Core, end_of-Core, mo
 use Rattle.core_lang.specs.declared.act.Core.TheVariants as c
 use Rattle.core_lang.specs.State.{State, Activation, value_of_atom}
 use Rattle.core_lang.specs.Acts.{Calls, Flow, Falls, Leaves, Returned, Does, behind, in_turn, out_of_block, as_block, out_of_turn, turn_of, as_loop, by_truth, act, row, acts}
-use Rattle.core_lang.specs.Following.{FlowsAlike, EndAlike, IsPlainAct, EachAct, EachInRow, EachOf}
+use Rattle.core_lang.specs.Following.{EndAlike, IsPlainAct, EachAct, EachInRow, EachOf}
 
 module _ (I : State → State → Type 0) (V : State → State → Option Value → Option Value → Type 0) where
   out_of_block_alike : (s : State) (f : Flow) (t : State) (d : Flow) (w : Outside) → EndAlike I V s f t d →

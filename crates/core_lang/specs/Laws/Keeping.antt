@@ -1,6 +1,6 @@
 -- What acts keep of a state, by induction over acts.
-use Rattle.std.proofs.Common.{◌≡◌, refl, sym, ap, ◌∙◌, subst, ℕ, zero, suc, ◌+◌}
-use Rattle.std.specs.Prelude.{Option, Some, None, Bool, List, [], ◌∷◌}
+use Rattle.std.proofs.Common.{◌≡◌, refl, subst, ℕ, zero, suc}
+use Rattle.std.specs.Prelude.{Option, Some, None, List, [], ◌∷◌}
 use Rattle.word_ops.specs.Store.{Value, Number, Pointer, Store}
 use Rattle.word_ops.specs.Values.{truth}
 use Rattle.word_ops.specs.Run.{Outside, Run, Gives, Ends, Undefined, then_do, given, tick_from, tick, next_word, get_byte}
@@ -9,7 +9,7 @@ use Rattle.core_lang.specs.declared.act.Atom.{Atom}
 use Rattle.core_lang.specs.declared.act.Core.{Core, Row_of-Core, end_of-Core, more_of-Core}
 use Rattle.core_lang.specs.declared.act.Core.TheVariants as c
 use Rattle.core_lang.specs.State.{State, Activation, value_of_atom, values_of_atoms, assigned}
-use Rattle.core_lang.specs.Acts.{Invocation, Calls, Flow, Falls, Leaves, Returned, Does, assign, assign_result, with_store, put_value, exit_value, act, acts}
+use Rattle.core_lang.specs.Acts.{Invocation, Calls, Flow, Falls, Leaves, Returned, assign, assign_result, with_store, put_value, exit_value, act, acts}
 use Rattle.core_lang.specs.Following.{FlowsAlike, EndAlike, IsPlainAct, EachAct, EachInRow, EachOf, OnGives, OnReturned, KeepsState}
 use Rattle.core_lang.specs.Laws.Following.{acts-alike}
 

@@ -1,20 +1,20 @@
 -- Laws of layouts: the meaning of a program never reads an address, so each layout gives it the same outcome.
-use Rattle.std.proofs.Common.{◌≡◌, ◌≢◌, refl, sym, ap, ◌∙◌, subst, ℕ, zero, suc, ◌+◌, List, [], ◌∷◌, ◌++◌, length, arith}
+use Rattle.std.proofs.Common.{◌≡◌, refl, sym, ap, ◌∙◌, subst, ℕ, zero, suc, ◌+◌, List, [], ◌∷◌, ◌++◌, length}
 use Rattle.std.proofs.lemmas.List.{map-append, length-map}
 use Rattle.std.proofs.lemmas.Option.{none-some, same_Some, slice_get-map}
-use Rattle.std.specs.Prelude.{Option, Some, None, Bool, true, false, not, ◌&&◌, ◌||◌, ◌/◌, ◌-◌, ◌==◌, if◌then◌else◌, map, slice_get, slice_set}
+use Rattle.std.specs.Prelude.{Option, Some, None, Bool, true, false, not, ◌&&◌, ◌||◌, ◌/◌, ◌==◌, if◌then◌else◌, map, slice_get, slice_set}
 use Rattle.std.specs.Option.{option_map, option_and_then}
 use Rattle.word_ops.specs.declared.operation.Op.{Op}
 use Rattle.word_ops.specs.declared.operation.Op.TheVariants.{Add, Sub, Eq, Ne, Ltu, Leu}
 use Rattle.word_ops.specs.declared.operation.Width.{Width}
 use Rattle.word_ops.specs.Choice.{only_if, when}
 use Rattle.word_ops.specs.Store.{Value, Number, Pointer, Cell, Unset, Byte, Region, Store, Shape, shape, shape_at, is_live, new_region, unset_cells, zero_cells, change_found, change_region, end_region, end_regions, refill_region}
-use Rattle.word_ops.specs.Access.{bytes_of, decode, encode, may_access, cells_in, cells_from, cells_at, load, with_cells, put_in, put_cells, is_constant_in, is_constant, initialise, write}
-use Rattle.word_ops.specs.Values.{pointer_within, of_pointer_and_number, of_number_and_pointer, of_pointers, value_of_operation, truth, is_pointer, is_pointer_or_null, moved_pointer, pointer_difference, equal_pointers, pointer_before, pointer_at_most}
-use Rattle.word_ops.specs.Run.{Outside, Run, Gives, Ends, Undefined, branch, next_word, end_of_main}
-use Rattle.word_ops.specs.Outcome.{Outcome, outcome_of, start}
+use Rattle.word_ops.specs.Access.{bytes_of, decode, encode, may_access, cells_in, cells_from, load, with_cells, put_in, put_cells, is_constant_in, is_constant, initialise, write}
+use Rattle.word_ops.specs.Values.{of_pointer_and_number, of_number_and_pointer, of_pointers, value_of_operation, truth, is_pointer, is_pointer_or_null}
+use Rattle.word_ops.specs.Run.{Outside, Run, Gives, Undefined, branch, next_word}
+use Rattle.word_ops.specs.Outcome.{Outcome, start}
 use Rattle.word_ops.specs.Following.{Follows, SameStatus, Never}
-use Rattle.word_ops.specs.Laws.Runs.{Follows-then, Follows-given_both, Follows-branch, Follows-tick, Follows-put_byte, Follows-main, Follows-nested, Follows-outcome}
+use Rattle.word_ops.specs.Laws.Runs.{Follows-then, Follows-given_both, Follows-tick, Follows-put_byte, Follows-main, Follows-outcome}
 use Rattle.core_lang.specs.declared.act.Atom.{Atom}
 use Rattle.core_lang.specs.declared.act.Atom.TheVariants as at
 use Rattle.core_lang.specs.declared.act.PointerOp.{PointerOp}
@@ -26,10 +26,10 @@ use Rattle.core_lang.specs.declared.program.Part.{Part}
 use Rattle.core_lang.specs.declared.program.Program.{Program}
 use Rattle.core_lang.specs.declared.program.StaticObject.{StaticObject}
 use Rattle.core_lang.specs.Layout.{Layout}
-use Rattle.core_lang.specs.State.{State, Activation, value_of_atom, value_of_option, values_of_atoms, assigned, argument}
+use Rattle.core_lang.specs.State.{State, Activation, value_of_atom, values_of_atoms, assigned, argument}
 use Rattle.core_lang.specs.Copying.{in_units, overlap_in_part, copied}
-use Rattle.core_lang.specs.Acts.{Invocation, Calls, Flow, Falls, Leaves, Returned, Does, assign, assign_result, with_store, value_of_pointers, put_value, exit_value, act, acts}
-use Rattle.core_lang.specs.Run.{local_regions, frame_of, activation_of, first_state, value_given_back, run_body, run_function, call_of, calls, cells_of_start, with_parts, static_region, static_regions, first_call, program_from, run_of_core}
+use Rattle.core_lang.specs.Acts.{Invocation, Calls, Flow, Falls, Leaves, Returned, assign, assign_result, with_store, value_of_pointers, put_value, exit_value, act, acts}
+use Rattle.core_lang.specs.Run.{local_regions, frame_of, activation_of, first_state, value_given_back, run_body, calls, cells_of_start, with_parts, static_region, static_regions, first_call, program_from, run_of_core}
 use Rattle.core_lang.specs.Following.{FlowsAlike, EndAlike, IsPlainAct}
 use Rattle.core_lang.specs.Laws.Following.{acts-alike}
 use Rattle.core_lang.specs.Laws.Keeping.{each_of}

@@ -1,11 +1,11 @@
 -- Laws of outcomes: what a longer clock and more depth add to the run of a program.
-use Rattle.std.proofs.Common.{◌≡◌, ◌≢◌, refl, sym, ap, ◌∙◌, subst, ℕ, ◌+◌, ◌≤◌, List, [], ◌∷◌, ◌++◌, length, arith, length-append}
+use Rattle.std.proofs.Common.{◌≡◌, ◌≢◌, refl, sym, ap, ◌∙◌, subst, ℕ, ◌+◌, List, [], ◌∷◌, ◌++◌, length, arith, length-append}
 use Rattle.std.proofs.lemmas.Option.{none-some, same_Some}
 use Rattle.std.specs.Prelude.{Option, Some, None, ◌-◌}
 use Rattle.word_ops.specs.Store.{Value, Number, Pointer, Store}
 use Rattle.word_ops.specs.Run.{Outside, End, Exit, Deep, More, Run, Gives, Ends, Undefined, end_of_main}
 use Rattle.word_ops.specs.Outcome.{Outcome, outcome_of, start, IsFurther, IsWithinClock}
-use Rattle.word_ops.specs.Clock.{Reaches, RunReaches, later, GoesOn}
+use Rattle.word_ops.specs.Clock.{Reaches, RunReaches, GoesOn}
 use Rattle.word_ops.specs.Laws.Outcomes.{outcome-within, outcome-same, outcome-further}
 use Rattle.core_lang.specs.declared.program.Program.{Program}
 use Rattle.core_lang.specs.Layout.{Layout}

@@ -1,25 +1,25 @@
 -- Laws of regions: acts and calls leave the regions that were there, with their sizes, flags and addresses.
-use Rattle.std.proofs.Common.{◌≡◌, refl, sym, ap, ◌∙◌, ℕ, zero, suc, ◌+◌, ◌++◌, length, arith, true, false}
-use Rattle.std.proofs.lemmas.Option.{none-some, same_Some, option_and_then_some}
-use Rattle.std.specs.Prelude.{Option, Some, None, Bool, List, [], ◌∷◌, not, ◌||◌, ◌/◌, ◌==◌, slice_get}
+use Rattle.std.proofs.Common.{◌≡◌, refl, ℕ, zero, suc, ◌+◌, length, arith, true, false}
+use Rattle.std.proofs.lemmas.Option.{none-some}
+use Rattle.std.specs.Prelude.{Option, Some, None, Bool, List, not, ◌||◌, ◌/◌, ◌==◌, slice_get}
 use Rattle.std.specs.Option.{option_map, option_and_then}
 use Rattle.word_ops.specs.Choice.{when}
-use Rattle.word_ops.specs.Store.{Value, Number, Pointer, Cell, Unset, Byte, Store, refill_region, end_regions}
+use Rattle.word_ops.specs.Store.{Value, Cell, Unset, Byte, Store, refill_region}
 use Rattle.word_ops.specs.Access.{load, write, cells_from, put_cells, is_constant}
 use Rattle.word_ops.specs.Values.{value_of_operation}
 use Rattle.word_ops.specs.Changes.{SameRegions, SameShapes}
-use Rattle.word_ops.specs.Run.{Outside, Run, Gives, Ends, Undefined, then_do, given, branch, next_word}
+use Rattle.word_ops.specs.Run.{Outside, Run, branch}
 use Rattle.word_ops.specs.Laws.Accesses.{Puts, put_cells-some, Puts-shapes, write-shapes}
 use Rattle.word_ops.specs.Laws.Regions.{refill_region-shapes, SameRegions-refl, SameRegions-trans, SameShapes-regions, SameRegions-append, SameRegions-ends}
 use Rattle.core_lang.specs.declared.act.Core.{Core}
 use Rattle.core_lang.specs.declared.act.Core.TheVariants as c
 use Rattle.core_lang.specs.declared.program.CoreFunction.{CoreFunction}
 use Rattle.core_lang.specs.Layout.{Layout}
-use Rattle.core_lang.specs.State.{State, Activation, value_of_atom, value_of_option, values_of_atoms, assigned}
+use Rattle.core_lang.specs.State.{State, Activation, value_of_atom}
 use Rattle.core_lang.specs.Copying.{in_units, overlap_in_part, copied}
-use Rattle.core_lang.specs.Acts.{Invocation, Calls, Flow, Falls, Leaves, Returned, Does, assign, assign_result, with_store, value_of_pointers, put_value, exit_value, act, acts}
-use Rattle.core_lang.specs.Run.{local_regions, frame_of, activation_of, first_state, value_given_back, run_body, run_function, call_of, calls}
-use Rattle.core_lang.specs.Following.{IsPlainAct, OnGives, OnReturned, KeepsState}
+use Rattle.core_lang.specs.Acts.{Invocation, Calls, assign, with_store, value_of_pointers, act, acts}
+use Rattle.core_lang.specs.Run.{activation_of, first_state, run_body, calls}
+use Rattle.core_lang.specs.Following.{IsPlainAct, OnGives, KeepsState}
 use Rattle.core_lang.specs.Laws.Keeping.{OnGives-then, OnGives-given, OnGives-more, Kept, assign-keeps, with_store-keeps, put_value-keeps, exit_value-keeps, get-keeps, call-keeps, each_of, acts-keep}
 
 -- ---- copies

@@ -1,17 +1,15 @@
 -- Laws of static objects: the store as a program begins is addressed, so main may be called.
-use Rattle.std.proofs.Common.{◌≡◌, ◌≢◌, refl, sym, ap, ◌∙◌, subst, ℕ, zero, suc, ◌+◌, ◌*◌, ◌≤◌, ◌<◌, ◌⊎◌, inl, inr, ⊎_elim, List, [], ◌∷◌, ◌++◌, length, arith}
+use Rattle.std.proofs.Common.{◌≡◌, refl, sym, ap, ◌∙◌, subst, ℕ, zero, suc, ◌+◌, inl, inr, ⊎_elim, List, [], ◌∷◌, ◌++◌, length, arith}
 use Rattle.std.proofs.lemmas.List.{length-replicate}
 use Rattle.std.proofs.lemmas.Option.{none-some, same_Some}
-use Rattle.std.specs.Prelude.{Option, Some, None, true, ◌^◌, take, drop, slice_get}
-use Rattle.std.specs.Option.{option_map}
-use Rattle.word_ops.specs.Store.{Value, Pointer, Cell, Byte, Region, Store, Shape, shape, shape_at, new_region, zero_cells}
+use Rattle.std.specs.Prelude.{Option, Some, None, true, take, drop, slice_get}
+use Rattle.word_ops.specs.Store.{Pointer, Byte, Region, Store, Shape, shape, shape_at, new_region, zero_cells}
 use Rattle.word_ops.specs.Access.{with_cells}
-use Rattle.word_ops.specs.Addresses.{IsOffsetIn, IsValueIn, AreCellsIn, AreApart, IsAddressed}
+use Rattle.word_ops.specs.Addresses.{IsOffsetIn, IsValueIn, AreCellsIn, IsAddressed}
 use Rattle.word_ops.specs.Run.{Outside}
 use Rattle.word_ops.specs.Laws.Regions.{shape_at-region, shape_at-some}
 use Rattle.word_ops.specs.Laws.Accesses.{length-with_cells}
 use Rattle.word_ops.specs.Laws.Addresses.{AreCellsIn-replicate}
-use Rattle.core_lang.specs.declared.program.CoreFunction.{CoreFunction}
 use Rattle.core_lang.specs.declared.program.Part.{Part}
 use Rattle.core_lang.specs.declared.program.Program.{Program}
 use Rattle.core_lang.specs.declared.program.Start.{Start}
@@ -20,7 +18,7 @@ use Rattle.core_lang.specs.declared.program.StaticObject.{StaticObject}
 use Rattle.core_lang.specs.Layout.{Layout}
 use Rattle.core_lang.specs.Run.{cells_of_start, with_parts, static_region, static_regions, first_call, calls}
 use Rattle.core_lang.specs.WellFormed.{bytes_of_start, IsPlaceIn, IsStartIn, ArePartsIn, IsWellFormed}
-use Rattle.core_lang.specs.Addresses.{LieApart, IsLayoutOf, IsFree, KeepsAddresses, IsCallable}
+use Rattle.core_lang.specs.Addresses.{IsLayoutOf, KeepsAddresses, IsCallable}
 use Rattle.core_lang.specs.Following.{OnGives}
 use Rattle.core_lang.specs.Laws.Addresses.{cells_append, cells_take, cells_drop, calls-sound}
 

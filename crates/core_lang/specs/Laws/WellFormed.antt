@@ -1,7 +1,6 @@
 -- Laws of well-formed acts: lists that stand in acts, and one list behind another.
-use Rattle.std.proofs.Common.{◌≡◌, refl, sym, ap, ◌∙◌, subst, ℕ, suc, ◌+◌, ◌≤◌, ◌<◌, ◌⊎◌, inl, inr, ⊎_elim, List, [], ◌∷◌, ◌++◌, arith, append_assoc}
-use Rattle.std.specs.Prelude.{◌==◌, Option, Some, None}
-use Rattle.word_ops.specs.Word.{number_of_truth}
+use Rattle.std.proofs.Common.{◌≡◌, refl, ap, ◌∙◌, ℕ, suc, ◌+◌, inl, inr, ⊎_elim, List, [], ◌∷◌, ◌++◌, arith}
+use Rattle.std.specs.Prelude.{Option, Some, None}
 use Rattle.core_lang.specs.declared.act.Atom.{Atom}
 use Rattle.core_lang.specs.declared.act.Atom.TheVariants as at
 use Rattle.core_lang.specs.declared.act.Core.{Core, Row_of-Core, end_of-Core, more_of-Core, items-the_row-Core, items_hidden-the_row-Core-0}
@@ -9,7 +8,7 @@ use Rattle.core_lang.specs.declared.act.Core.TheBlock.{hidden-the_row-Core-0}
 use Rattle.core_lang.specs.declared.act.Core.TheVariants as c
 use Rattle.core_lang.specs.declared.program.CoreFunction.{CoreFunction}
 use Rattle.core_lang.specs.declared.program.Program.{Program}
-use Rattle.core_lang.specs.WellFormed.{IsAmong, IsAtomIn, targets, AreAtomsIn, IsOptionIn, IsActIn, IsRowIn, AreActsIn, assigned_behind, occurrences, places_in_act, places_in_row, places_in}
+use Rattle.core_lang.specs.WellFormed.{IsAmong, IsAtomIn, targets, AreAtomsIn, IsOptionIn, IsActIn, IsRowIn, AreActsIn, assigned_behind, places_in_act, places_in_row, places_in}
 
 -- ---- lists in acts
 
