@@ -1,0 +1,15 @@
+use Rattle.core_lang.proofs.laws.well_formed_lists.Goals as goal
+use Rattle.core_lang.specs.Laws.Counts.{count-append}
+use Rattle.core_lang.specs.Laws.WellFormed.{AreActsIn-append, AreActsIn-split, places_in-append}
+
+pub returns-clause-append : goal.returns-clause-append
+returns-clause-append c = AreActsIn-append
+
+pub returns-clause-split : goal.returns-clause-split
+returns-clause-split c = AreActsIn-split
+
+pub returns-clause-places : goal.returns-clause-places
+returns-clause-places c = places_in-append
+
+pub returns-clause-counts : goal.returns-clause-counts
+returns-clause-counts c = count-append

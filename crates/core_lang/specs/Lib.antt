@@ -1,0 +1,13 @@
+pub mod Layout
+pub mod State
+pub mod Copying
+pub mod Acts
+pub mod Run
+pub mod Depth
+pub mod WellFormed
+pub mod Counts
+pub mod Following
+pub mod Addresses
+pub mod Laws
+pub mod Examples
+pub mod Instances
