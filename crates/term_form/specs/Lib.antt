@@ -3,3 +3,8 @@ pub mod Bits
 pub mod Congruence
 pub mod Meets
 pub mod Records
+pub mod Walk
+pub mod Scope
+pub mod Best
+pub mod Examples
+pub mod Laws
