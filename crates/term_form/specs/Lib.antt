@@ -2,6 +2,7 @@ pub mod Interval
 pub mod Bits
 pub mod Congruence
 pub mod Meets
+pub mod Narrower
 pub mod Records
 pub mod Walk
 pub mod Scope

@@ -17,6 +17,7 @@ mod facts;
 mod graph;
 mod interval;
 mod listing;
+mod narrower;
 mod term;
 mod walks;
 
@@ -26,6 +27,7 @@ pub use listing::{
     ArgumentRecord, BlockRecord, EdgeRecord, Effect, EffectRecord, EndKind, EndRecord,
     FunctionRecord, Listing, Mode, Record, StoreWidth, TermKind, TermRecord,
 };
+pub use narrower::{anything, is_narrower, only};
 pub use term::{Node, Root, Term};
 pub use walks::{closed_walks, loads_of_walks, walks_go_on};
 
