@@ -27,7 +27,7 @@ pub use listing::{
     ArgumentRecord, BlockRecord, EdgeRecord, Effect, EffectRecord, EndKind, EndRecord,
     FunctionRecord, Listing, Mode, Record, StoreWidth, TermKind, TermRecord,
 };
-pub use narrower::{anything, is_narrower, only};
+pub use narrower::{anything, is_narrower, knows_bits_of, lies_within, only, refines_rest};
 pub use term::{Node, Root, Term};
 pub use walks::{closed_walks, loads_of_walks, walks_go_on};
 

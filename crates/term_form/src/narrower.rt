@@ -47,7 +47,7 @@ pub fn is_narrower(facts: &Facts, wider: &Facts) -> bool
 }
 
 /// Whether each interval lies in the other.
-fn lies_within(facts: &Facts, wider: &Facts) -> bool
+pub fn lies_within(facts: &Facts, wider: &Facts) -> bool
     ensures { IsTrue result ↔ LiesWithin facts.now wider.now }
 {
     wider.low <= facts.low
@@ -57,14 +57,14 @@ fn lies_within(facts: &Facts, wider: &Facts) -> bool
 }
 
 /// Whether each known bit of the others is known.
-fn knows_bits_of(facts: &Facts, wider: &Facts) -> bool
+pub fn knows_bits_of(facts: &Facts, wider: &Facts) -> bool
     ensures { IsTrue result ↔ KnowsBitsOf facts.now wider.now }
 {
     facts.zeros & wider.zeros == wider.zeros && facts.ones & wider.ones == wider.ones
 }
 
 /// Whether the congruence lies in the other: exactly where the hull of both has the modulus of the other.
-fn refines_rest(facts: &Facts, wider: &Facts) -> bool
+pub fn refines_rest(facts: &Facts, wider: &Facts) -> bool
     ensures { IsTrue result ↔ RefinesRest facts.now wider.now }
 {
     hull(facts, wider).modulus == wider.modulus
