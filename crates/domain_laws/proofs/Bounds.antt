@@ -4,7 +4,7 @@ use Rattle.std.proofs.Math.Nat.{one-dvd}
 use Rattle.term_form.specs.declared.facts.Facts.{Facts}
 use Rattle.term_form.specs.Congruence.{rest_number}
 use Rattle.term_form.specs.Narrower.{RefinesRest, any_word}
-use Rattle.term_form.proofs.Congruences.{congruent_refl, congruent_from_apart}
+use Rattle.term_form.proofs.Congruences.{congruent_from_apart}
 
 -- each congruence lies in the one that says nothing
 pub refines_any : (f g : Facts) → g ≡ any_word → RefinesRest f g

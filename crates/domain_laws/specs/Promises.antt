@@ -1,9 +1,9 @@
 -- What the calls of a domain promise, over the relations and functions that a domain tells of its states: the worlds that it
 -- stands for, the terms in scope, their nodes and facts, the marks that are good, and the loads that it recalls.
-use Rattle.std.specs.Prelude.{◌≡◌, ◌≢◌, ℕ, Bool, Option, Some, None, List}
+use Rattle.std.specs.Prelude.{◌≡◌, ◌≢◌, ℕ, Bool, Some, List}
 use Rattle.word_ops.specs.declared.operation.Op.{Op}
 use Rattle.word_ops.specs.declared.operation.Width.{Width}
-use Rattle.word_ops.specs.declared.operation.Width.TheVariants.{U8, S8, U16, S16, Word}
+use Rattle.word_ops.specs.declared.operation.Width.TheVariants.{Word}
 use Rattle.word_ops.specs.Store.{Value, Number, Cell, Store}
 use Rattle.word_ops.specs.Access.{decode, cells_at}
 use Rattle.word_ops.specs.Values.{value_of_operation}

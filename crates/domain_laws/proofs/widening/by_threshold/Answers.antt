@@ -1,5 +1,4 @@
 use Rattle.std.proofs.Common.{rules}
-use Rattle.term_form.specs.Narrower.{IsNarrower}
 use Rattle.term_form.proofs.Widths.{IsHull-first, IsHull-second}
 use Rattle.domain_laws.proofs.widening.by_threshold.Goals as goal
 

@@ -1,5 +1,3 @@
-use Rattle.std.proofs.lemmas.Nat.Gcd.{dvd_refl}
-use Rattle.term_form.specs.Narrower.{RefinesRest}
 use Rattle.term_form.proofs.Widths.{IsNarrower-refl}
 use Rattle.domain_laws.proofs.Bounds.{refines_any}
 use Rattle.domain_laws.proofs.widening.with_rest_or_none.Goals as goal
