@@ -1,2 +1,3 @@
 pub mod Congruences
 pub mod Parts
+pub mod Widths

@@ -2,4 +2,10 @@ pub mod Interval
 pub mod Bits
 pub mod Congruence
 pub mod Meets
+pub mod Narrower
 pub mod Records
+pub mod Walk
+pub mod Scope
+pub mod Best
+pub mod Examples
+pub mod Laws

@@ -1,0 +1,2 @@
+-- Laws of the definitions beside this file, by subject.
+pub mod Worlds

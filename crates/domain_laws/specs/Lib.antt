@@ -1,0 +1,4 @@
+pub mod World
+pub mod Promises
+pub mod Widening
+pub mod Laws

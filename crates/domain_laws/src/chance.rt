@@ -1,0 +1,8 @@
+/// Whether a term can have a truth.
+#[derive(Clone, Copy, Debug, PartialEq, Eq)]
+pub enum Chance {
+    /// in no world that the domain stands for
+    Never,
+    /// in some, for all that the domain knows
+    Possible,
+}

@@ -1,0 +1,5 @@
+use Rattle.term_form.proofs.Widths.{any_meets}
+use Rattle.term_form.proofs.narrower.anything.Goals as goal
+
+pub returns-clause-holds : goal.returns-clause-holds
+returns-clause-holds c = any_meets

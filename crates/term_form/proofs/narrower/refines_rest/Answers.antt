@@ -1,0 +1,9 @@
+use Rattle.std.proofs.lemmas.Bool.{eqb-true, eq-eqb}
+use Rattle.term_form.proofs.Widths.{modulus_of_hull, refines_by_hull}
+use Rattle.term_form.proofs.narrower.refines_rest.Goals as goal
+
+pub returns : goal.returns
+returns c = (
+  λ t. refines_by_hull c.args.facts.now c.args.wider.now c.hull.result c.hull.ensures.parts (eqb-true _ _ t),
+  λ r. eq-eqb _ _ (modulus_of_hull c.args.facts.now c.args.wider.now c.hull.result c.hull.ensures.parts r),
+)

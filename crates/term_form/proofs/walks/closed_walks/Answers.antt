@@ -1,0 +1,5 @@
+use Rattle.std.proofs.Common.{refl}
+use Rattle.term_form.proofs.walks.closed_walks.Goals as goal
+
+pub returns : goal.returns
+returns c = record { takes_first = refl; takes_second = refl; swaps = refl; runs_out = refl; adds = refl; goes_too_deep = refl; chooses = refl }

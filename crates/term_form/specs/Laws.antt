@@ -1,0 +1,3 @@
+-- Laws of the definitions beside this file, by subject.
+pub mod Loads
+pub mod Walks
