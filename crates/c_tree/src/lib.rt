@@ -3,6 +3,7 @@
 
 mod refusal;
 mod token;
+pub mod typed;
 
 pub use refusal::{FaultKind, Feature, Refusal};
 pub use token::{IntKind, Keyword, Pos, Punct, Token, TokenKind, Tokens};
