@@ -16,8 +16,11 @@ mod statement;
 mod types;
 mod unit;
 
-pub use expression::{Arm, Head, Step, TExpr, Target};
-pub use operator::{Arithmetic, Change, Conversion, Given, Increment, Primary, Relation, Scalar, Sign, Stride, Unary};
+pub use expression::{Arm, Step, TExpr, Target};
+pub use operator::{
+    Arithmetic, Change, Conversion, Given, Increment, Primary, Relation, Scalar, Sign, Stride,
+    Unary,
+};
 pub use statement::{Branch, Initial, Initialiser, Label, Objects, Part, TStmt};
 pub use types::{Base, CType, Derived};
 pub use unit::{Object, StaticObject, StaticPart, TFunction, Typed};
