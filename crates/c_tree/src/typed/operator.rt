@@ -77,7 +77,7 @@ pub enum Arithmetic {
     Difference(u32),
 }
 
-/// How an assignment or `++` or `--` changes an object of scalar type (C11 6.5.16).
+/// How an assignment changes an object of scalar type (C11 6.5.16). What it gives is the new value.
 #[derive(Clone, Copy, Debug, PartialEq, Eq, Hash)]
 pub struct Change {
     /// how the object is kept
@@ -97,11 +97,15 @@ pub enum Given {
     New,
 }
 
-/// `++` or `--`: the change is by the number 1.
+/// `++` or `--` of an object of scalar type: the change is by the number 1.
 #[derive(Clone, Copy, Debug, PartialEq, Eq, Hash)]
 pub struct Increment {
-    /// how the object changes; its operator adds or takes away
-    pub change: Change,
+    /// how the object is kept
+    pub scalar: Scalar,
+    /// the operator that adds or takes away, with the old value to its left
+    pub operator: Arithmetic,
+    /// from the operator's result to the object's type
+    pub conversion: Conversion,
     /// which value is given
     pub given: Given,
 }

@@ -1,0 +1,6 @@
+pub mod Environment
+pub mod Operators
+pub mod Expressions
+pub mod Statements
+pub mod Units
+pub mod Examples

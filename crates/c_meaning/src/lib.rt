@@ -1,0 +1,2 @@
+//! What a C source means: the run of a typed unit.
+#![tactic(auto)]
