@@ -2,3 +2,4 @@
 pub mod Congruence
 pub mod Related
 pub mod Clock
+pub mod Depth

@@ -4,4 +4,5 @@ pub mod Expressions
 pub mod Statements
 pub mod Units
 pub mod Examples
+pub mod Depth
 pub mod Laws
