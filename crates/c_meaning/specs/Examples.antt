@@ -2,3 +2,7 @@
 -- typed trees made by hand; the line of C above each says what it stands for.
 pub mod Trees
 pub mod Runs
+pub mod Undefined
+pub mod Operators
+pub mod Statements
+pub mod Clock
