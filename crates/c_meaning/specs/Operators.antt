@@ -61,7 +61,7 @@ converted st (conversion.Integer width.Word) v = Some v
 converted st (conversion.Integer k) v = narrowed_value k v
 -- C11 6.3.1.2
 converted st conversion.Bool v = truth_value (truth st v)
--- C11 6.3.2.3: a pointer leads to the same place, and the null pointer constant is the number 0 already
+-- C11 6.3.2.3p1, p7: a pointer leads to the same place
 converted st conversion.Pointer v = Some v
 
 -- ---- comparisons (C11 6.5.8, 6.5.9)
@@ -178,6 +178,8 @@ incremented st i p =
 abbrev pub primary_value : Environment → Store → Primary → Option Changed
 -- C11 6.4.4, 6.5.1p3, 6.5.3.4
 primary_value env st (primary.Number n) = unchanged st (Some (Number n))
+-- C11 6.3.2.3p3
+primary_value env st primary.Null = unchanged st (Some (Number 0))
 -- C11 6.5.1p2, 6.3.2.1p2
 primary_value env st (primary.Variable k x) = unchanged st (option_and_then (value_at st k) (automatic_place env x))
 -- C11 6.5.3.2p3, 6.3.2.1p3

@@ -1,0 +1,2 @@
+pub mod TypedKinds
+pub mod TypedUnits

@@ -25,7 +25,7 @@ use Rattle.c_tree.specs.declared.typed.unit.Object.{Object}
 use Rattle.c_tree.specs.declared.typed.unit.TFunction.{TFunction}
 use Rattle.c_tree.specs.declared.typed.unit.Typed.{Typed}
 use Rattle.c_meaning.specs.Units.{outcome_of_unit}
-use Rattle.c_meaning.specs.Examples.Trees.{computed, plain, int, unsigned, char, signed_char, unsigned_short, bool, void, struct_, pointer_to, array_of, constant, word, byte, signed_byte, half, pointer, object, an_int, an_unsigned, a_pointer, ints, chars, num, uns, var_as, var, uvar, pvar, at, static, on, load, to, to_word, to_byte, to_signed_byte, to_half, to_bool, to_pointer, negate, complement, not_, member, by, add, sub, mul, div, compare, compare_unsigned, compare_pointers, less, equal, index, index_unsigned, back, difference, plus, minus, is_less, is_equal, element, set_as, set, set_by, set_pointer, store_as, store, increment, postfix_plus, prefix_plus, all_of, any_of, arm, choose, comma, call, getchar, putchar, dropped, do_, do_call, begin, begin_as, begin_with, int_at, block, nothing, branch, if_, if_else, switch, labels, case, default, return, function, procedure, static_as, literal, unit, unit_with, main_of, ends}
+use Rattle.c_meaning.specs.Examples.Trees.{computed, plain, int, unsigned, char, signed_char, unsigned_short, bool, void, struct_, pointer_to, array_of, constant, word, byte, signed_byte, half, pointer, object, an_int, an_unsigned, a_pointer, ints, chars, num, uns, null, var_as, var, uvar, pvar, at, static, on, load, to, to_word, to_byte, to_signed_byte, to_half, to_bool, to_pointer, negate, complement, not_, member, by, add, sub, mul, div, compare, compare_unsigned, compare_pointers, less, equal, index, index_unsigned, back, difference, plus, minus, is_less, is_equal, element, set_as, set, set_by, set_pointer, store_as, store, increment, postfix_plus, prefix_plus, all_of, any_of, arm, choose, comma, call, getchar, putchar, dropped, do_, do_call, begin, begin_as, begin_with, int_at, block, nothing, branch, if_, if_else, switch, labels, case, default, return, function, procedure, static_as, literal, unit, unit_with, main_of, ends}
 
 -- the outcome of a main with these objects, without input
 abbrev outcome : List Object → List TStmt → Option Outcome

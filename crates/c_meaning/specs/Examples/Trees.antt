@@ -130,6 +130,9 @@ num n = x.Primary int (primary.Number n)
 abbrev pub uns : ℕ → TExpr
 uns n = x.Primary unsigned (primary.Number n)
 
+abbrev pub null : TExpr
+null = x.Primary (pointer_to int) primary.Null
+
 -- the value of the automatic object of this place in scope
 abbrev pub var_as : CType → Scalar → ℕ → TExpr
 var_as t k i = x.Primary t (primary.Variable k i)

@@ -26,7 +26,7 @@ use Rattle.c_tree.specs.declared.typed.unit.Object.{Object}
 use Rattle.c_tree.specs.declared.typed.unit.TFunction.{TFunction}
 use Rattle.c_tree.specs.declared.typed.unit.Typed.{Typed}
 use Rattle.c_meaning.specs.Units.{outcome_of_unit}
-use Rattle.c_meaning.specs.Examples.Trees.{computed, plain, int, unsigned, char, signed_char, unsigned_short, bool, void, struct_, pointer_to, array_of, constant, word, byte, signed_byte, half, pointer, object, an_int, an_unsigned, a_pointer, ints, chars, num, uns, var_as, var, uvar, pvar, at, static, on, load, to, to_word, to_byte, to_signed_byte, to_half, to_bool, to_pointer, negate, complement, not_, member, by, add, sub, mul, div, compare, compare_unsigned, compare_pointers, less, equal, index, index_unsigned, back, difference, plus, minus, is_less, is_equal, element, set_as, set, set_by, set_pointer, store_as, store, increment, postfix_plus, prefix_plus, all_of, any_of, arm, choose, comma, call, getchar, putchar, dropped, do_, do_call, begin, begin_as, begin_with, int_at, block, nothing, branch, if_, if_else, switch, labels, case, default, return, function, procedure, static_as, literal, unit, unit_with, main_of, ends}
+use Rattle.c_meaning.specs.Examples.Trees.{computed, plain, int, unsigned, char, signed_char, unsigned_short, bool, void, struct_, pointer_to, array_of, constant, word, byte, signed_byte, half, pointer, object, an_int, an_unsigned, a_pointer, ints, chars, num, uns, null, var_as, var, uvar, pvar, at, static, on, load, to, to_word, to_byte, to_signed_byte, to_half, to_bool, to_pointer, negate, complement, not_, member, by, add, sub, mul, div, compare, compare_unsigned, compare_pointers, less, equal, index, index_unsigned, back, difference, plus, minus, is_less, is_equal, element, set_as, set, set_by, set_pointer, store_as, store, increment, postfix_plus, prefix_plus, all_of, any_of, arm, choose, comma, call, getchar, putchar, dropped, do_, do_call, begin, begin_as, begin_with, int_at, block, nothing, branch, if_, if_else, switch, labels, case, default, return, function, procedure, static_as, literal, unit, unit_with, main_of, ends}
 
 -- the outcome of a main with these objects, without input
 abbrev outcome : List Object → List TStmt → Option Outcome
@@ -77,7 +77,7 @@ reads_whole_pointer = refl
 
 -- int main(void){int z=1;return *(int**)&z==0;}
 abbrev integer_as_pointer : ℕ → Option Outcome
-integer_as_pointer n = outcome (an_int ∷ []) (begin 0 (num n) ∷ return (on int (at (pointer_to int) 0) (to to_pointer ∷ load pointer ∷ compare_pointers relation.Equal (on (pointer_to int) (num 0) (to to_pointer ∷ [])) ∷ [])) ∷ [])
+integer_as_pointer n = outcome (an_int ∷ []) (begin 0 (num n) ∷ return (on int (at (pointer_to int) 0) (to to_pointer ∷ load pointer ∷ compare_pointers relation.Equal null ∷ [])) ∷ [])
 
 pub reads_integer_as_pointer : integer_as_pointer 1 ≡ None
 unfolding computed
@@ -91,7 +91,7 @@ reads_zero_as_pointer = refl
 -- ---- access (C11 6.5.3.2p4)
 
 -- int main(void){int x=4;int*p=0;return *p;}
-pub through_null : outcome (an_int ∷ a_pointer ∷ []) (begin 0 (num 4) ∷ begin_as pointer 1 (on (pointer_to int) (num 0) (to to_pointer ∷ [])) ∷ return (on int (pvar 1) (load word ∷ [])) ∷ []) ≡ None
+pub through_null : outcome (an_int ∷ a_pointer ∷ []) (begin 0 (num 4) ∷ begin_as pointer 1 null ∷ return (on int (pvar 1) (load word ∷ [])) ∷ []) ≡ None
 unfolding computed
 through_null = refl
 
@@ -263,7 +263,7 @@ negative_of_next = refl
 
 -- int main(void){int a[2];return a+N!=0;}
 abbrev moved_by : TExpr → Option Outcome
-moved_by p = outcome (ints 2 ∷ []) (return (on int p (compare_pointers relation.NotEqual (on (pointer_to int) (num 0) (to to_pointer ∷ [])) ∷ [])) ∷ [])
+moved_by p = outcome (ints 2 ∷ []) (return (on int p (compare_pointers relation.NotEqual null ∷ [])) ∷ [])
 
 abbrev two : TExpr
 two = at (array_of 2 int) 0
@@ -295,7 +295,7 @@ unfolding computed
 plus_greatest_unsigned = refl
 
 -- (int*)0+0
-pub null_plus_zero : moved_by (on (pointer_to int) (num 0) (to to_pointer ∷ index 4 (num 0) ∷ [])) ≡ None
+pub null_plus_zero : moved_by (on (pointer_to int) null (index 4 (num 0) ∷ [])) ≡ None
 unfolding computed
 null_plus_zero = refl
 
@@ -310,7 +310,7 @@ in_the_block e = outcome (a_pointer ∷ []) (block (an_int ∷ []) (begin 1 (num
 
 -- p+1!=0
 abbrev moved : TExpr
-moved = on int (pvar 0) (index 4 (num 1) ∷ compare_pointers relation.NotEqual (on (pointer_to int) (num 0) (to to_pointer ∷ [])) ∷ [])
+moved = on int (pvar 0) (index 4 (num 1) ∷ compare_pointers relation.NotEqual null ∷ [])
 
 pub dead_pointer_moved : behind_block moved ≡ None
 unfolding computed
@@ -346,7 +346,7 @@ live_pointer_subtracted = refl
 
 -- p==0
 abbrev compared_to_null : TExpr
-compared_to_null = on int (pvar 0) (compare_pointers relation.Equal (on (pointer_to int) (num 0) (to to_pointer ∷ [])) ∷ [])
+compared_to_null = on int (pvar 0) (compare_pointers relation.Equal null ∷ [])
 
 pub dead_pointer_compared : behind_block compared_to_null ≡ None
 unfolding computed
@@ -406,7 +406,7 @@ unfolding computed
 at_least_in_one_object = refl
 
 -- a<=(int*)0
-pub order_with_null : two_arrays (on int two (compare_pointers relation.AtMost (on (pointer_to int) (num 0) (to to_pointer ∷ [])) ∷ [])) ≡ None
+pub order_with_null : two_arrays (on int two (compare_pointers relation.AtMost null ∷ [])) ≡ None
 unfolding computed
 order_with_null = refl
 
@@ -424,7 +424,7 @@ unfolding computed
 negative_difference = refl
 
 -- (int*)0-(int*)0
-pub difference_of_nulls : two_arrays (on int (num 0) (to to_pointer ∷ difference 4 (on (pointer_to int) (num 0) (to to_pointer ∷ [])) ∷ [])) ≡ None
+pub difference_of_nulls : two_arrays (on int null (difference 4 null ∷ [])) ≡ None
 unfolding computed
 difference_of_nulls = refl
 

@@ -27,7 +27,7 @@ pub enum Conversion {
     Integer(Width),
     /// to `_Bool`, from an integer or a pointer: 1, or 0 where the value compares equal to 0 (C11 6.3.1.2)
     Bool,
-    /// to a pointer type, from a pointer or a null pointer constant (C11 6.3.2.3p1, p3, p7)
+    /// to a pointer type, from another one (C11 6.3.2.3p1, p7)
     Pointer,
 }
 
@@ -119,6 +119,8 @@ pub struct Increment {
 pub enum Primary {
     /// an integer or character constant, an enumerator, or a `sizeof` (C11 6.5.1p3, 6.4.4, 6.5.3.4)
     Number(u32),
+    /// a null pointer: a null pointer constant, converted to a pointer type (C11 6.3.2.3p3)
+    Null,
     /// the value of an automatic object of scalar type (C11 6.5.1p2, 6.3.2.1p2)
     Variable(Scalar, u32),
     /// the address of an automatic object: the lvalue itself, an array or a structure, or under `&`
