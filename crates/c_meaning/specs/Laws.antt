@@ -3,3 +3,6 @@ pub mod Congruence
 pub mod Related
 pub mod Clock
 pub mod Depth
+pub mod OperatorKinds
+pub mod ValueKinds
+pub mod CallKinds

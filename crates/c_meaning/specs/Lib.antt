@@ -5,4 +5,6 @@ pub mod Statements
 pub mod Units
 pub mod Examples
 pub mod Depth
+pub mod Kinds
 pub mod Laws
+pub mod Instances

@@ -1,13 +1,18 @@
 //! Laws of the definitions. The functions do nothing: each is here for what its contract says.
-ghost use Rattle.std.specs.Prelude.{◌≡◌, ◌≢◌, ℕ, ◌+◌, ◌≤◌, List, Option, Some, None};
+ghost use Rattle.std.specs.Prelude.{◌≡◌, ◌≢◌, ℕ, ◌+◌, ◌≤◌, List, map, Option, Some, None, slice_get};
 ghost use Rattle.word_ops.specs.Store.{Value, Store};
 ghost use Rattle.word_ops.specs.Run.{Outside, Run, End};
 ghost use Rattle.word_ops.specs.Outcome.{Outcome, IsFurther, IsWithinClock};
 ghost use Rattle.word_ops.specs.Clock.{RunReaches, IsTimed};
+ghost use Rattle.c_tree.specs.declared.typed.expression.TExpr.{TExpr};
 ghost use Rattle.c_tree.specs.declared.typed.unit.Typed.{Typed};
-ghost use Rattle.c_meaning.specs.Expressions.{Invocation};
+ghost use Rattle.c_tree.specs.TypedKinds.{Kind, Names, IsOfKind};
+ghost use Rattle.c_tree.specs.TypedUnits.{signature_of, IsUnit};
+ghost use Rattle.c_meaning.specs.Environment.{Environment};
+ghost use Rattle.c_meaning.specs.Expressions.{Invocation, value};
 ghost use Rattle.c_meaning.specs.Units.{calls, run_of_unit, outcome_of_unit};
-ghost use Rattle.c_meaning.specs.Depth.{GoesDeeper, IsDeeper};
+ghost use Rattle.c_meaning.specs.Depth.{IsDeeper};
+ghost use Rattle.c_meaning.specs.Kinds.{IsValueOf, IsResultIn, GivesSuch};
 
 /// A run takes input from the front, appends to the output and takes ticks, and changes nothing else
 /// outside; it ends for want of ticks only where none is left. So does each call in it.
@@ -52,4 +57,15 @@ pub fn runs_with_more_depth()
 pub fn calls_with_more_depth()
     ensures { (u : Typed) (less more : ℕ) (c : Invocation) → less ≤ more →
         IsDeeper (calls u less c) (calls u more c) }
+{}
+
+/// In a unit that hangs together what an expression gives is a value of its kind, and what a call gives is
+/// one that its function's type has. So a number is a word, and what is converted to a narrow type, read
+/// from a narrow object or assigned to one is in that type's range.
+pub fn values_are_of_their_kinds()
+    ensures values { (u : Typed) (depth : ℕ) (c : Names) (a : TExpr) (g : Kind) (env : Environment) (st : Store)
+        (w : Outside) → IsUnit u → c.functions ≡ map signature_of u.functions → IsOfKind c a g →
+        GivesSuch (IsValueOf g) (value (calls u depth) a env st w) }
+    ensures calls { (u : Typed) (depth : ℕ) (c : Invocation) (w : Outside) → IsUnit u →
+        GivesSuch (IsResultIn (slice_get (map signature_of u.functions) c.function)) (calls u depth c w) }
 {}

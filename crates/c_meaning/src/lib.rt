@@ -14,4 +14,5 @@ mod laws;
 
 pub use laws::{
     calls_with_more_depth, runs_take_what_is_there, runs_with_a_longer_clock, runs_with_more_depth,
+    values_are_of_their_kinds,
 };
