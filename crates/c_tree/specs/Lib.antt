@@ -3,3 +3,5 @@ pub mod Spelling
 pub mod Levels
 pub mod Nesting
 pub mod Levelled
+pub mod TypedKinds
+pub mod TypedUnits

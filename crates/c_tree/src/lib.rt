@@ -11,6 +11,7 @@ mod statement;
 #[cfg(test)]
 mod tests;
 mod token;
+pub mod typed;
 mod unit;
 
 pub use declaration::{Declaration, InitDeclarator, Initialiser, InitialiserItem, Start};

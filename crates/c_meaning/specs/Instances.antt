@@ -1,0 +1,36 @@
+-- What the laws ask can be met: a unit that hangs together.
+use Rattle.std.proofs.Common.{◌≡◌, refl, sym, subst, ℕ, zero, suc, List, [], ◌∷◌, arith}
+use Rattle.std.proofs.lemmas.Option.{none-some, same_Some}
+use Rattle.std.specs.Prelude.{◌^◌, ◌<◌, Option, Some, None, slice_get}
+use Rattle.c_tree.specs.declared.typed.unit.StaticObject.{StaticObject}
+use Rattle.c_tree.specs.declared.typed.unit.TFunction.{TFunction}
+use Rattle.c_tree.specs.declared.typed.unit.Typed.{Typed}
+use Rattle.c_tree.specs.TypedKinds.{Kind, Void, Holds, Signature, Names, word, IsOfKind}
+use Rattle.c_tree.specs.TypedUnits.{signature_of, names_in, IsFunction, LieIn, IsUnit}
+use Rattle.c_meaning.specs.Examples.Trees.{computed, num, var, minus, do_call, return, main_of}
+use Rattle.c_meaning.specs.Examples.Runs.{descends, descent}
+
+-- void f(int n){if(n)f(n-1);}
+descends_is_function : IsFunction (descent 2) descends
+unfolding computed
+descends_is_function =
+    ((((word, (refl, refl), tt), (Void, (signature_of descends, refl, ((word, (refl, refl), (word, (omega arith, refl), word, (tt, tt, refl), refl)), tt), refl)), tt), tt), tt)
+
+-- int main(void){f(2);return 0;}
+main_is_function : IsFunction (descent 2) (main_of [] (do_call 0 (num 2 ∷ []) ∷ return (num 0) ∷ []))
+unfolding computed
+main_is_function =
+    ((Void, (signature_of descends, refl, ((omega arith, refl), tt), refl)), ((omega arith, refl), tt))
+
+functions_hang_together : (i : ℕ) (f : TFunction) → slice_get (descent 2).functions i ≡ Some f → IsFunction (descent 2) f
+functions_hang_together zero f e = subst (IsFunction (descent 2)) (same_Some descends f e) descends_is_function
+functions_hang_together (suc zero) f e =
+    subst (IsFunction (descent 2)) (same_Some (main_of [] (do_call 0 (num 2 ∷ []) ∷ return (num 0) ∷ [])) f e) main_is_function
+functions_hang_together (suc (suc i)) f e = absurd (none-some f e)
+
+pub descent_hangs_together : IsUnit (descent 2)
+descent_hangs_together = record {
+  functions = functions_hang_together;
+  main = (refl, refl);
+  objects = λ i o e. absurd (none-some o e);
+}

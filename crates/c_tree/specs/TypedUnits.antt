@@ -1,0 +1,143 @@
+-- What hangs together in typed statements, functions and units.
+use Rattle.std.specs.Prelude.{◌≡◌, ℕ, ◌+◌, ◌≤◌, ◌%◌, Bool, true, false, List, [], ◌∷◌, ◌++◌, length, map, Option, Some, None, slice_get}
+use Rattle.word_ops.specs.declared.operation.Width.TheVariants as width
+use Rattle.c_tree.specs.declared.typed.operator.Scalar.{Scalar}
+use Rattle.c_tree.specs.declared.typed.operator.Scalar.TheVariants as scalar
+use Rattle.c_tree.specs.declared.typed.expression.TExpr.{TExpr}
+use Rattle.c_tree.specs.declared.typed.statement.TStmt.{TStmt, Row_of-TStmt, end_of-TStmt, more_of-TStmt, Row_of-Branch, end_of-Branch, more_of-Branch, Row_of-Part, end_of-Part, more_of-Part}
+use Rattle.c_tree.specs.declared.typed.statement.TStmt.TheVariants as s
+use Rattle.c_tree.specs.declared.typed.statement.Initial.{Initial}
+use Rattle.c_tree.specs.declared.typed.statement.Initial.TheVariants as initial
+use Rattle.c_tree.specs.declared.typed.statement.Initialiser.{Initialiser}
+use Rattle.c_tree.specs.declared.typed.statement.Initialiser.TheVariants as initialiser
+use Rattle.c_tree.specs.declared.typed.unit.Object.{Object}
+use Rattle.c_tree.specs.declared.typed.unit.StaticPart.{StaticPart}
+use Rattle.c_tree.specs.declared.typed.unit.StaticPart.TheVariants as part
+use Rattle.c_tree.specs.declared.typed.unit.StaticObject.{StaticObject}
+use Rattle.c_tree.specs.declared.typed.unit.TFunction.{TFunction}
+use Rattle.c_tree.specs.declared.typed.unit.Typed.{Typed}
+use Rattle.c_tree.specs.TypedKinds.{Kind, Void, Holds, Signature, Names, IsScalar, IsInteger, IsOfKind}
+
+-- ---- names
+
+-- how an object is kept
+abbrev pub kept_as : Object → Option Scalar
+kept_as o = o.scalar
+
+-- what names stand for in a block that declares objects
+abbrev pub with_declared : Names → List Object → Names
+with_declared c os = record { statics = c.statics; functions = c.functions; objects = c.objects ++ map kept_as os }
+
+abbrev pub signature_of : TFunction → Signature
+signature_of f = record { parameters = map kept_as f.parameters; result = f.scalar }
+
+-- what names stand for in a function
+abbrev pub names_in : Typed → TFunction → Names
+names_in u f =
+    record { statics = length u.objects; functions = map signature_of u.functions; objects = map kept_as f.parameters }
+
+-- ---- statements
+
+-- which jumps may stand at a place, and what a return gives
+pub record Jumps : Type 0 where
+  pub breaks : Bool
+  pub continues : Bool
+  pub result : Option Scalar
+
+abbrev pub in_loop : Jumps → Jumps
+in_loop j = record { breaks = true; continues = true; result = j.result }
+
+abbrev pub in_switch : Jumps → Jumps
+in_switch j = record { breaks = true; continues = j.continues; result = j.result }
+
+-- a condition: an expression that gives a value that is true or false (C11 6.8.4.1p1, 6.8.5p2)
+abbrev pub IsCondition : Names → TExpr → Type 0
+IsCondition c e = (j : Kind) × IsOfKind c e j × IsScalar j
+
+abbrev pub IsConditionIfAny : Names → Option TExpr → Type 0
+IsConditionIfAny c None = Unit {0}
+IsConditionIfAny c (Some e) = IsCondition c e
+
+-- an expression that is evaluated for what it does
+abbrev pub IsOfSomeKind : Names → TExpr → Type 0
+IsOfSomeKind c e = (j : Kind) × IsOfKind c e j
+
+abbrev pub IsOfSomeKindIfAny : Names → Option TExpr → Type 0
+IsOfSomeKindIfAny c None = Unit {0}
+IsOfSomeKindIfAny c (Some e) = IsOfSomeKind c e
+
+abbrev pub AreInitials : Names → List Initial → Type 0
+AreInitials c [] = Unit {0}
+AreInitials c (initial.Value n k e ∷ is) = IsOfKind c e (Holds k) × AreInitials c is
+AreInitials c (initial.Bytes n bytes ∷ is) = AreInitials c is
+
+-- an initial value of an object that is kept so: a scalar one for a scalar object, pieces for an aggregate (C11 6.7.9p11, p16)
+abbrev pub IsInitialOf : Names → Option Scalar → Initialiser → Type 0
+IsInitialOf c None (initialiser.Scalar k e) = ⊥
+IsInitialOf c (Some j) (initialiser.Scalar k e) = (k ≡ j) × IsOfKind c e (Holds k)
+IsInitialOf c None (initialiser.Aggregate is) = AreInitials c is
+IsInitialOf c (Some j) (initialiser.Aggregate is) = ⊥
+
+-- a return in a function whose value is kept so (C11 6.8.6.4p1)
+abbrev pub IsReturnOf : Names → Option Scalar → Option TExpr → Type 0
+IsReturnOf c None None = Unit {0}
+IsReturnOf c None (Some e) = ⊥
+IsReturnOf c (Some k) None = ⊥
+IsReturnOf c (Some k) (Some e) = IsOfKind c e (Holds k)
+
+abbrev mutual
+  pub IsStatement : Names → Jumps → TStmt → Type 0
+  IsStatement c j (s.Evaluate e) = IsOfSomeKind c e
+  IsStatement c j (s.Initialise i v) =
+      (k : Option Scalar) × (slice_get c.objects i ≡ Some k) × IsInitialOf c k v
+  IsStatement c j (s.Block' b n all) = AreStatements (with_declared c b.list) j all
+  IsStatement c j (s.If' n branches p (more_of-TStmt a end_of-TStmt)) = AreBranches c j branches × IsStatement c j a
+  IsStatement c j (s.While' e p (more_of-TStmt a end_of-TStmt)) = IsCondition c e × IsStatement c (in_loop j) a
+  IsStatement c j (s.Do' p (more_of-TStmt a end_of-TStmt) e) = IsStatement c (in_loop j) a × IsCondition c e
+  IsStatement c j (s.For' e f p (more_of-TStmt a end_of-TStmt)) =
+      IsConditionIfAny c e × IsOfSomeKindIfAny c f × IsStatement c (in_loop j) a
+  IsStatement c j (s.Switch' e b n parts) =
+      (k : Kind) × IsOfKind c e k × IsInteger k × AreParts (with_declared c b.list) (in_switch j) parts
+  IsStatement c j s.Break = j.breaks ≡ true
+  IsStatement c j s.Continue = j.continues ≡ true
+  IsStatement c j (s.Return e) = IsReturnOf c j.result e
+
+  pub AreStatements : Names → Jumps → {n : _} → Row_of-TStmt n → Type 0
+  AreStatements c j end_of-TStmt = Unit {0}
+  AreStatements c j (more_of-TStmt a rest) = IsStatement c j a × AreStatements c j rest
+
+  pub AreBranches : Names → Jumps → {n : _} → Row_of-Branch n → Type 0
+  AreBranches c j end_of-Branch = Unit {0}
+  AreBranches c j (more_of-Branch e a rest) = IsCondition c e × IsStatement c j a × AreBranches c j rest
+
+  pub AreParts : Names → Jumps → {n : _} → Row_of-Part n → Type 0
+  AreParts c j end_of-Part = Unit {0}
+  AreParts c j (more_of-Part labels m body rest) = AreStatements c j body × AreParts c j rest
+
+-- ---- functions and units
+
+-- a function definition: its body, where no jump leads out but return (C11 6.9.1)
+abbrev pub IsFunction : Typed → TFunction → Type 0
+IsFunction u f = IsStatement (names_in u f) (record { breaks = false; continues = false; result = f.scalar }) f.body
+
+-- main: it takes nothing and returns an int (C11 5.1.2.2.1p1)
+abbrev pub IsMain : Option TFunction → Type 0
+IsMain None = ⊥
+IsMain (Some f) = (length f.parameters ≡ 0) × (f.scalar ≡ Some (scalar.Integer width.Word))
+
+-- a part of a static object lies in it, and an address is a place in a static object or one past its end, and stands where a
+-- pointer is aligned
+abbrev pub LiesIn : Typed → (size : ℕ) → StaticPart → Type 0
+LiesIn u size (part.Bytes n bytes) = n + length bytes ≤ size
+LiesIn u size (part.Address n r o) =
+    (n + 4 ≤ size) × (n % 4 ≡ 0) × (p : StaticObject) × (slice_get u.objects r ≡ Some p) × (o ≤ p.object.size)
+
+abbrev pub LieIn : Typed → (size : ℕ) → List StaticPart → Type 0
+LieIn u size [] = Unit {0}
+LieIn u size (p ∷ ps) = LiesIn u size p × LieIn u size ps
+
+-- what typing makes and lowering takes
+pub record IsUnit (u : Typed) : Type 0 where
+  pub functions : (i : ℕ) (f : TFunction) → slice_get u.functions i ≡ Some f → IsFunction u f
+  pub main : IsMain (slice_get u.functions u.main)
+  pub objects : (i : ℕ) (o : StaticObject) → slice_get u.objects i ≡ Some o → LieIn u o.object.size o.parts
