@@ -4,7 +4,7 @@ use Rattle.std.proofs.Common.{◌≡◌, refl, sym, ap, ◌∙◌, subst, ℕ, z
 use Rattle.std.proofs.Math.Nat.{suc-mul}
 use Rattle.std.proofs.lemmas.List.{length-replicate}
 use Rattle.std.proofs.lemmas.Option.{none-some, same_Some, slice_get_within}
-use Rattle.std.specs.Prelude.{Option, Some, None, true, false, ◌/◌, ◌^◌, ◌==◌, if◌then◌else◌, take, drop, map, slice_get}
+use Rattle.std.specs.Prelude.{◌%◌, Option, Some, None, true, false, ◌/◌, ◌^◌, ◌==◌, if◌then◌else◌, take, drop, map, slice_get}
 use Rattle.std.specs.Option.{option_map}
 use Rattle.word_ops.specs.declared.operation.Op.TheVariants.{Add, Sub, Eq, Ltu, Leu}
 use Rattle.word_ops.specs.Store.{Value, Number, Pointer, Cell, Unset, Byte, Part, Region, Store, Shape, shape, shape_at, new_region, unset_cells, end_region, end_regions, refill_region}
@@ -35,7 +35,7 @@ use Rattle.core_lang.specs.Acts.{Invocation, Calls, Flow, Falls, Leaves, Returne
 use Rattle.core_lang.specs.Run.{local_regions, frame_of, activation_of, first_state, value_given_back, run_body, calls}
 use Rattle.core_lang.specs.Following.{IsPlainAct, EachAct, EachInRow, EachOf, OnGives, OnReturned, KeepsState}
 use Rattle.core_lang.specs.WellFormed.{targets, IsAtomIn, AreAtomsIn, IsActIn, IsRowIn, AreActsIn, IsWellFormed}
-use Rattle.core_lang.specs.Addresses.{IsLayoutOf, IsFree, NoneLiveBehind, AreValuesIn, IsOptionIn, IsSound, KeepsAddresses, IsCallable}
+use Rattle.core_lang.specs.Addresses.{IsLayoutOf, IsFree, IsAligned, NoneLiveBehind, AreValuesIn, IsOptionIn, IsSound, KeepsAddresses, IsCallable}
 use Rattle.core_lang.specs.Laws.Keeping.{OnGives-then, OnGives-given, Kept, assign-keeps, with_store-keeps, put_value-keeps, exit_value-keeps, get-keeps, call-keeps, acts-keep}
 use Rattle.core_lang.specs.Laws.Regions.{copied-some, copied-shapes, OnGives-branch}
 
@@ -79,6 +79,10 @@ IsOptionIn-ends : (s : Store) (first count : ℕ) (v : Option Value) → IsOptio
     IsOptionIn (end_regions s first count) v
 IsOptionIn-ends s first count None h = tt
 IsOptionIn-ends s first count (Some v) h = IsValueIn-ends s first count v h
+
+-- objects that are live are those of the first store, at multiples of 8
+pub IsAligned-behind : (s t : Store) → NoneLiveBehind s t → IsAligned s → IsAligned t
+IsAligned-behind s t h a r z e live = a r z (h r z e live) live
 
 -- ---- cells
 
@@ -208,18 +212,18 @@ module _ (l : Layout) (p : Program) (deepest : ℕ) (layout : IsLayoutOf l p dee
       IsCallable p layout.bottom layout.largest (suc depth) i →
       (layout.bottom + depth * layout.largest ≤ frame_of l i) × (frame_of l i + l.frame i.function ≡ i.stack)
   frame_fits depth i g there callable =
-      let f = layout.frame i.function g there in
+      let f = (layout.frame i.function g there).0 in
       let r : layout.bottom + (depth * layout.largest + layout.largest) ≤ i.stack = subst (λ n. layout.bottom + n ≤ i.stack) (suc-mul depth layout.largest) callable.room in
       (omega (arith, f, r), omega (arith, f, r))
 
   module _ (depth : ℕ) (i : Invocation) (g : CoreFunction) (there : slice_get p.functions i.function ≡ Some g) (callable : IsCallable p layout.bottom layout.largest (suc depth) i) where
     -- each local object lies between the frame's beginning and its end
     local_is : (x : ℕ) (z : Shape) → shape_at (local_regions (λ k. frame_of l i + l.local i.function k) 0 g.locals) x ≡ Some z →
-        (n : ℕ) × (slice_get g.locals x ≡ Some n) × (z.size ≡ n) × (z.address ≡ frame_of l i + l.local i.function x) × (frame_of l i + l.local i.function x + n + 8 ≤ i.stack)
+        (n : ℕ) × (slice_get g.locals x ≡ Some n) × (z.size ≡ n) × (z.address ≡ frame_of l i + l.local i.function x) × (frame_of l i + l.local i.function x + n + 8 ≤ i.stack) × (l.local i.function x % 8 ≡ 0)
     local_is x z e =
         let h = local_regions-shape (λ k. frame_of l i + l.local i.function k) g.locals x z e in
         let f = layout.local i.function g x h.0 there h.1 in
-        (h.0, h.1, ap (λ (z : Shape). z.size) h.2, ap (λ (z : Shape). z.address) h.2, omega (arith, f, (frame_fits depth i g there callable).1))
+        (h.0, h.1, ap (λ (z : Shape). z.size) h.2, ap (λ (z : Shape). z.address) h.2, omega (arith, f.0, (frame_fits depth i g there callable).1), f.1)
 
     abbrev locals : Store
     locals = local_regions (λ k. frame_of l i + l.local i.function k) 0 g.locals
@@ -248,10 +252,6 @@ module _ (l : Layout) (p : Program) (deepest : ℕ) (layout : IsLayoutOf l p dee
           subst (λ (k : Region). AreCellsIn (i.store ++ locals) k.cells) (sym h.2) (AreCellsIn-replicate (i.store ++ locals) h.0 Unset tt);
     }
 
-    pub first_sound : IsSound first.store first
-    first_sound =
-        record { addressed = IsAddressed-append i.store locals locals_new callable.addressed; values = λ x. IsValueIn-same i.store (i.store ++ locals) (argument i.arguments x) (SameRegions-append i.store locals) (argument_in i.store i.arguments x callable.arguments); regions = SameRegions-refl first.store; live = λ r z e live. e }
-
     -- a region of the first store was there before, or is a local object
     where_first : (r : ℕ) (z : Shape) → shape_at first.store r ≡ Some z →
         (shape_at i.store r ≡ Some z) ⊎ ((x : ℕ) × (r ≡ length i.store + x) × (x < length g.locals) × (shape_at locals x ≡ Some z))
@@ -262,6 +262,27 @@ module _ (l : Layout) (p : Program) (deepest : ℕ) (layout : IsLayoutOf l p dee
         (λ b. inr (b.0, b.1, omega (arith, slice_get_within locals b.0 k.0 b.2, length-local_regions (λ k. frame_of l i + l.local i.function k) 0 g.locals), shape_at-region locals b.0 k.0 b.2 ∙ ap Some k.2))
         (slice_get-append_some i.store locals r k.0 k.1)
 
+    frame_aligned : frame_of l i % 8 ≡ 0
+    frame_aligned =
+        let f = (layout.frame i.function g there).1 in
+        let b = (frame_fits depth i g there callable).1 in
+        let s = callable.stack_aligned in omega (arith, f, b, s)
+
+    first_aligned : IsAligned first.store
+    first_aligned r z e live =
+        ⊎_elim
+        (λ a. callable.aligned r z a live)
+        (λ b.
+        let h = local_is b.0 z b.3 in
+        let a = h.3 in
+        let c = h.5 in
+        let d = frame_aligned in omega (arith, a, c, d))
+        (where_first r z e)
+
+    pub first_sound : IsSound first.store first
+    first_sound =
+        record { addressed = IsAddressed-append i.store locals locals_new callable.addressed; values = λ x. IsValueIn-same i.store (i.store ++ locals) (argument i.arguments x) (SameRegions-append i.store locals) (argument_in i.store i.arguments x callable.arguments); regions = SameRegions-refl first.store; live = λ r z e live. e; aligned = first_aligned }
+
     first_length : length first.store ≡ length i.store + length g.locals
     first_length =
         length-append i.store locals ∙ ap (λ n. length i.store + n) (length-local_regions (λ k. frame_of l i + l.local i.function k) 0 g.locals)
@@ -271,7 +292,7 @@ module _ (l : Layout) (p : Program) (deepest : ℕ) (layout : IsLayoutOf l p dee
     pub ends_sound : (s : State) (v : Option Value) → IsSound first.store s → IsOptionIn s.store v →
         KeepsAddresses i.store (end_regions s.store (length i.store) (length g.locals)) v
     ends_sound s v h k =
-        record { addressed = IsAddressed-ends s.store (length i.store) (length g.locals) h.addressed; value = IsOptionIn-ends s.store (length i.store) (length g.locals) v k; regions = SameRegions-ends i.store s.store (length i.store) (length g.locals) (omega arith) (SameRegions-trans i.store first.store s.store (SameRegions-append i.store locals) h.regions); live = none }
+        record { addressed = IsAddressed-ends s.store (length i.store) (length g.locals) h.addressed; aligned = IsAligned-behind i.store (end_regions s.store (length i.store) (length g.locals)) none callable.aligned; value = IsOptionIn-ends s.store (length i.store) (length g.locals) v k; regions = SameRegions-ends i.store s.store (length i.store) (length g.locals) (omega arith) (SameRegions-trans i.store first.store s.store (SameRegions-append i.store locals) h.regions); live = none }
       where
         none : NoneLiveBehind i.store (end_regions s.store (length i.store) (length g.locals))
         none r z e live =
@@ -300,6 +321,8 @@ module _ (l : Layout) (p : Program) (deepest : ℕ) (layout : IsLayoutOf l p dee
       free = free_below s h;
       room = (frame_fits depth i g there callable).0;
       top = omega (arith, below_stack, callable.top);
+      aligned = h.aligned;
+      stack_aligned = frame_aligned;
     }
 
     -- ---- the acts of the called function
@@ -324,7 +347,7 @@ module _ (l : Layout) (p : Program) (deepest : ℕ) (layout : IsLayoutOf l p dee
 
     assigned_sound : (x : ℕ) (v : Value) (s : State) → IsSound first.store s → IsValueIn s.store v →
         IsSound first.store (assigned s x v)
-    assigned_sound x v s h k = record { addressed = h.addressed; values = vars; regions = h.regions; live = h.live }
+    assigned_sound x v s h k = record { addressed = h.addressed; values = vars; regions = h.regions; live = h.live; aligned = h.aligned }
       where
         vars : (y : ℕ) → IsValueIn s.store (if y == x then v else s.vars y)
         vars y = elim (y == x) as (λ b. IsValueIn s.store (if b then v else s.vars y)) [ true ↦ k | false ↦ h.values y ]
@@ -337,7 +360,7 @@ module _ (l : Layout) (p : Program) (deepest : ℕ) (layout : IsLayoutOf l p dee
     stored_sound : (t : Store) (s : State) → IsSound first.store s → SameShapes s.store t → IsAddressed t →
         IsSound first.store (record s { store = t })
     stored_sound t s h k a =
-        record { addressed = a; values = λ x. IsValueIn-same s.store t (s.vars x) (SameShapes-regions s.store t k) (h.values x); regions = SameRegions-trans first.store s.store t h.regions (SameShapes-regions s.store t k); live = λ r z q live. h.live r z (sym (k r) ∙ q) live }
+        record { aligned = λ r z q live. h.aligned r z (sym (k r) ∙ q) live; addressed = a; values = λ x. IsValueIn-same s.store t (s.vars x) (SameShapes-regions s.store t k) (h.values x); regions = SameRegions-trans first.store s.store t h.regions (SameShapes-regions s.store t k); live = λ r z q live. h.live r z (sym (k r) ∙ q) live }
 
     with_store_sound : (o : Option Store) (s : State) (w : Outside) → IsSound first.store s →
         ((t : Store) → o ≡ Some t → SameShapes s.store t × IsAddressed t) →
@@ -348,7 +371,7 @@ module _ (l : Layout) (p : Program) (deepest : ℕ) (layout : IsLayoutOf l p dee
     called_sound : (t : Store) (v : Option Value) (s : State) → IsSound first.store s → KeepsAddresses s.store t v →
         IsSound first.store (record s { store = t })
     called_sound t v s h m =
-        record { addressed = m.addressed; values = λ x. IsValueIn-same s.store t (s.vars x) m.regions (h.values x); regions = SameRegions-trans first.store s.store t h.regions m.regions; live = λ r z q live. h.live r z (m.live r z q live) live }
+        record { aligned = m.aligned; addressed = m.addressed; values = λ x. IsValueIn-same s.store t (s.vars x) m.regions (h.values x); regions = SameRegions-trans first.store s.store t h.regions m.regions; live = λ r z q live. h.live r z (m.live r z q live) live }
 
     next_word_small : (xs : List ℕ) → next_word xs < 2 ^ 32
     next_word_small xs = ⊎_elim (λ a. omega (arith, a)) (λ b. omega (arith, b)) (next_word-in xs)
