@@ -36,6 +36,7 @@ use Rattle.core_lang.specs.Run.{local_regions, frame_of, activation_of, first_st
 use Rattle.core_lang.specs.Following.{IsPlainAct, EachAct, EachInRow, EachOf, OnGives, OnReturned, KeepsState}
 use Rattle.core_lang.specs.WellFormed.{targets, IsAtomIn, AreAtomsIn, IsActIn, IsRowIn, AreActsIn, IsWellFormed}
 use Rattle.core_lang.specs.Addresses.{IsLayoutOf, IsFree, IsAligned, NoneLiveBehind, AreValuesIn, IsOptionIn, IsSound, KeepsAddresses, IsCallable}
+use Rattle.core_lang.specs.Laws.Locals.{local_regions-at, length-local_regions, local_regions-shape}
 use Rattle.core_lang.specs.Laws.Keeping.{OnGives-then, OnGives-given, Kept, assign-keeps, with_store-keeps, put_value-keeps, exit_value-keeps, get-keeps, call-keeps, acts-keep}
 use Rattle.core_lang.specs.Laws.Regions.{copied-some, copied-shapes, OnGives-branch}
 
@@ -135,35 +136,6 @@ pointers_in s Difference x y v h k e = operation-in s Sub x y v h k (pointer_dif
 pointers_in s Equal x y v h k e = operation-in s Eq x y v h k (equal_pointers-operation s x y v e)
 pointers_in s Before x y v h k e = operation-in s Ltu x y v h k (pointer_before-operation s x y v e)
 pointers_in s AtMost x y v h k e = operation-in s Leu x y v h k (pointer_at_most-operation s x y v e)
-
--- ---- the local objects of an activation
-
-pub local_regions-at : (address : ℕ → ℕ) (k : ℕ) (sizes : List ℕ) (i : ℕ) (g : Region) →
-    slice_get (local_regions address k sizes) i ≡ Some g →
-    (n : ℕ) × (slice_get sizes i ≡ Some n) × (g ≡ new_region false (address (k + i)) (unset_cells n))
-local_regions-at address k [] i g e = absurd (none-some g e)
-local_regions-at address k (n ∷ sizes) zero g e =
-    let z : k ≡ k + zero = omega arith in
-    (n, refl, sym (same_Some (new_region false (address k) (unset_cells n)) g e) ∙ ap (λ k. new_region false (address k) (unset_cells n)) z)
-local_regions-at address k (n ∷ sizes) (suc i) g e =
-    let h = local_regions-at address (k + 1) sizes i g e in
-    let z : k + 1 + i ≡ k + suc i = omega arith in
-    (h.0, h.1, h.2 ∙ ap (λ k. new_region false (address k) (unset_cells h.0)) z)
-
-pub length-local_regions : (address : ℕ → ℕ) (k : ℕ) (sizes : List ℕ) →
-    length (local_regions address k sizes) ≡ length sizes
-length-local_regions address k [] = refl
-length-local_regions address k (n ∷ sizes) = ap suc (length-local_regions address (k + 1) sizes)
-
--- the shape of one of them
-pub local_regions-shape : (address : ℕ → ℕ) (sizes : List ℕ) (i : ℕ) (z : Shape) →
-    shape_at (local_regions address 0 sizes) i ≡ Some z →
-    (n : ℕ) × (slice_get sizes i ≡ Some n) × (z ≡ record { size = n; live = true; constant = false; address = address i })
-local_regions-shape address sizes i z e =
-    let g = shape_at-some (local_regions address 0 sizes) i z e in
-    let h = local_regions-at address 0 sizes i g.0 g.1 in
-    let k : 0 + i ≡ i = omega arith in
-    (h.0, h.1, sym g.2 ∙ ap shape h.2 ∙ ap (λ n. record { size = n; live = true; constant = false; address = address (0 + i) }) (length-replicate h.0 Unset) ∙ ap (λ k. record { size = h.0; live = true; constant = false; address = address k }) k)
 
 -- ---- acts that are well formed
 
