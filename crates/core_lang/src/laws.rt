@@ -1,10 +1,11 @@
 //! Laws of the definitions that contracts cite. The functions do nothing: each is here for what its contract says, and
 //! the lemmas that other crates' proofs cite stand in `specs/Laws`.
-ghost use Rattle.std.specs.Prelude.{◌≡◌, ◌≢◌, ℕ, ◌+◌, ◌≤◌, List, ◌++◌, Some, None, false, slice_get, length};
+ghost use Rattle.std.specs.Prelude.{◌≡◌, ◌≢◌, ℕ, ◌+◌, ◌<◌, ◌≤◌, List, ◌++◌, Some, None, false, slice_get, length};
 ghost use Rattle.word_ops.specs.Store.{Value, Store};
 ghost use Rattle.word_ops.specs.Access.{copy};
 ghost use Rattle.word_ops.specs.Changes.{SameRegions, Fades};
 ghost use Rattle.word_ops.specs.Run.{Outside, Run, End, then_do, after_turn};
+ghost use Rattle.word_ops.specs.Following.{Follows};
 ghost use Rattle.word_ops.specs.Clock.{Reaches, IsTimed};
 ghost use Rattle.word_ops.specs.Outcome.{Outcome, IsFurther, IsWithinClock};
 ghost use Rattle.core_lang.specs.declared.act.Atom.{Atom};
@@ -19,7 +20,7 @@ ghost use Rattle.core_lang.specs.Depth.{GoesDeeper};
 ghost use Rattle.core_lang.specs.Following.{OnGives};
 ghost use Rattle.core_lang.specs.Copying.{overlap_in_part, copied};
 ghost use Rattle.core_lang.specs.Counts.{count_of_acts};
-ghost use Rattle.core_lang.specs.WellFormed.{IsUnits, AreActsIn, assigned_behind, places_in, IsWellFormed};
+ghost use Rattle.core_lang.specs.WellFormed.{IsUnits, AreActsIn, assigned_behind, places_in, IsFunctionIn, IsWellFormed};
 ghost use Rattle.core_lang.specs.Addresses.{IsLayoutOf, KeepsAddresses, IsCallable};
 
 use crate::act::Core;
@@ -59,8 +60,9 @@ pub fn copies_by_units()
 {}
 
 /// Well-formed acts: two lists are well formed one behind the other where the second is so behind what the first
-/// assigns, a number is assigned in the places of both, and the lists count for what both count for.
-pub fn well_formed_lists()
+/// assigns, a number is assigned in the places of both, and the lists count for what both count for. A well-formed
+/// function does the same whatever its temporaries hold as it begins, so it reads none that it has not assigned.
+pub fn well_formed_acts()
     ensures append { (p : Program) (g : CoreFunction) (k : ℕ) (ts : List ℕ) (xs ys : List Core) →
         AreActsIn p g k ts xs → AreActsIn p g k (assigned_behind xs ts) ys → AreActsIn p g k ts (xs ++ ys) }
     ensures split { (p : Program) (g : CoreFunction) (k : ℕ) (ts : List ℕ) (xs ys : List Core) →
@@ -68,6 +70,9 @@ pub fn well_formed_lists()
     ensures counts { (sizes : List ℕ) (xs ys : List Core) →
         count_of_acts sizes (xs ++ ys) ≡ count_of_acts sizes xs + count_of_acts sizes ys }
     ensures places { (x : ℕ) (xs ys : List Core) → places_in x (xs ++ ys) ≡ places_in x xs + places_in x ys }
+    ensures temporaries { (p : Program) (g : CoreFunction) (call : Calls) (e : Activation) → IsFunctionIn p g →
+        (s t : State) (w : Outside) → ((x : ℕ) → x < g.vars → s.vars x ≡ t.vars x) → s.store ≡ t.store →
+        Follows (λ (s : State) f (t : State) d. (f ≡ d) × (s.store ≡ t.store)) (acts call e g.body s w) (acts call e g.body t w) }
 {}
 
 /// A longer clock: an outcome stays within the clock and the input; one that came otherwise than for want of ticks is
