@@ -9,6 +9,7 @@ pub mod Keeping
 pub mod Variables
 pub mod Regions
 pub mod Copies
+pub mod Filling
 pub mod Reads
 pub mod Locals
 pub mod Addresses

@@ -1,7 +1,7 @@
 //! Laws of the definitions that contracts cite. The functions do nothing: each is here for what its contract says, and
 //! the lemmas that other crates' proofs cite stand in `specs/Laws`.
-ghost use Rattle.std.specs.Prelude.{◌≡◌, ◌≢◌, ℕ, ◌+◌, ◌<◌, ◌≤◌, List, ◌++◌, Some, None, false, slice_get, length};
-ghost use Rattle.word_ops.specs.Store.{Value, Store};
+ghost use Rattle.std.specs.Prelude.{◌≡◌, ◌≢◌, ℕ, ◌+◌, ◌<◌, ◌≤◌, List, ◌++◌, Some, None, true, false, slice_get, length};
+ghost use Rattle.word_ops.specs.Store.{Value, Byte, Region, Store, refill_region};
 ghost use Rattle.word_ops.specs.Access.{copy};
 ghost use Rattle.word_ops.specs.Changes.{SameRegions, Fades};
 ghost use Rattle.word_ops.specs.Run.{Outside, Run, End, then_do, after_turn};
@@ -19,6 +19,7 @@ ghost use Rattle.core_lang.specs.Run.{calls, first_call, program_from, run_of_co
 ghost use Rattle.core_lang.specs.Depth.{GoesDeeper};
 ghost use Rattle.core_lang.specs.Following.{OnGives};
 ghost use Rattle.core_lang.specs.Copying.{overlap_in_part, copied};
+ghost use Rattle.core_lang.specs.Filling.{widths_of_fill, store_zeros};
 ghost use Rattle.core_lang.specs.Counts.{count_of_acts};
 ghost use Rattle.core_lang.specs.WellFormed.{IsUnits, AreActsIn, assigned_behind, places_in, IsFunctionIn, IsWellFormed};
 ghost use Rattle.core_lang.specs.Addresses.{IsLayoutOf, KeepsAddresses, IsCallable};
@@ -50,13 +51,15 @@ pub fn variables_of_acts()
         (w : Outside) → OnGives (λ (t : State) f. t.vars x ≡ s.vars x) (acts call e xs s w) }
 {}
 
-/// Copies: one by units is the copy of all cells, but for cells that it makes Unset, and is defined where that is and the
-/// ranges do not overlap in part.
-pub fn copies_by_units()
+/// Copies and fills: a copy by units is that of all cells, but for cells that it makes Unset, and is defined where that
+/// is and the ranges do not overlap in part. An object that lives and is not constant is filled by stores of zeros.
+pub fn copies_and_fills()
     ensures cells { (s t : Store) (p q : Value) (n a : ℕ) → IsUnits n a → copied s p q n a ≡ Some t →
         (u : Store) × (copy s p q n a ≡ Some u) × Fades u t }
     ensures defined { (s u : Store) (p q : Value) (n a : ℕ) → IsUnits n a → overlap_in_part p q n ≡ false →
         copy s p q n a ≡ Some u → (t : Store) × (copied s p q n a ≡ Some t) × Fades u t }
+    ensures filled { (s : Store) (r : ℕ) (g : Region) → slice_get s r ≡ Some g → g.live ≡ true → g.constant ≡ false →
+        store_zeros s r 0 (widths_of_fill (length g.cells)) ≡ Some (refill_region s r (Byte 0)) }
 {}
 
 /// Well-formed acts: two lists are well formed one behind the other where the second is so behind what the first

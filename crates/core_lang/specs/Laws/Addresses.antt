@@ -1,13 +1,12 @@
 -- Laws of addresses: with a layout that keeps the objects of a program apart, each store of its runs is addressed, and each
 -- value is one of its store.
-use Rattle.std.proofs.Common.{◌≡◌, refl, sym, ap, ◌∙◌, subst, ℕ, zero, suc, ◌+◌, ◌*◌, ◌≤◌, ◌<◌, ◌⊎◌, inl, inr, ⊎_elim, List, [], ◌∷◌, ◌++◌, length, arith, length-append}
+use Rattle.std.proofs.Common.{◌≡◌, sym, ap, ◌∙◌, subst, ℕ, zero, suc, ◌+◌, ◌*◌, ◌≤◌, ◌<◌, ◌⊎◌, inl, inr, ⊎_elim, List, [], ◌∷◌, ◌++◌, length, arith, length-append}
 use Rattle.std.proofs.Math.Nat.{suc-mul}
-use Rattle.std.proofs.lemmas.List.{length-replicate}
-use Rattle.std.proofs.lemmas.Option.{none-some, same_Some, slice_get_within}
+use Rattle.std.proofs.lemmas.Option.{slice_get_within}
 use Rattle.std.specs.Prelude.{◌%◌, Option, Some, None, true, false, ◌/◌, ◌^◌, ◌==◌, if◌then◌else◌, take, drop, map, slice_get}
 use Rattle.std.specs.Option.{option_map}
 use Rattle.word_ops.specs.declared.operation.Op.TheVariants.{Add, Sub, Eq, Ltu, Leu}
-use Rattle.word_ops.specs.Store.{Value, Number, Pointer, Cell, Unset, Byte, Part, Region, Store, Shape, shape, shape_at, new_region, unset_cells, end_region, end_regions, refill_region}
+use Rattle.word_ops.specs.Store.{Value, Number, Pointer, Cell, Unset, Byte, Part, Region, Store, Shape, shape, shape_at, end_region, end_regions, refill_region}
 use Rattle.word_ops.specs.Access.{load, write, pointer_in}
 use Rattle.word_ops.specs.Values.{value_of_operation}
 use Rattle.word_ops.specs.Addresses.{IsOffsetIn, IsValueIn, AreCellsIn, IsAddressed, AreNewTo}

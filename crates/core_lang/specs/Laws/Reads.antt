@@ -2,11 +2,11 @@
 -- not matter.
 use Rattle.std.proofs.Common.{◌≡◌, ◌≢◌, refl, sym, ap, ◌∙◌, subst, ℕ, zero, suc, ◌+◌, ◌<◌, ◌⊎◌, inl, inr, ⊎_elim, List, [], ◌∷◌, ◌++◌}
 use Rattle.std.proofs.lemmas.Bool.Decides.{eqb_tells}
-use Rattle.std.specs.Prelude.{Option, Some, None, Bool, true, false, ◌==◌, if◌then◌else◌}
+use Rattle.std.specs.Prelude.{Option, Some, None, ◌==◌, if◌then◌else◌}
 use Rattle.word_ops.specs.Store.{Value, Number, Pointer, Store, Unset, Byte, refill_region}
 use Rattle.word_ops.specs.Access.{load, write}
 use Rattle.word_ops.specs.Values.{value_of_operation, truth}
-use Rattle.word_ops.specs.Run.{Outside, Run, Gives, Ends, Undefined, then_do, Again, Over, next_word}
+use Rattle.word_ops.specs.Run.{Outside, Run, Gives, Ends, Undefined, Again, Over, next_word}
 use Rattle.word_ops.specs.Following.{Follows, TurnsAlike}
 use Rattle.word_ops.specs.Laws.Runs.{Follows-more, Follows-then, Follows-given_both, Follows-branch, Follows-tick, Follows-put_byte, Follows-loop}
 use Rattle.core_lang.specs.declared.act.Atom.{Atom}
@@ -19,7 +19,7 @@ use Rattle.core_lang.specs.State.{State, Activation, value_of_atom, value_of_opt
 use Rattle.core_lang.specs.Copying.{copied}
 use Rattle.core_lang.specs.Acts.{Invocation, Calls, Flow, Falls, Leaves, Returned, Does, assign, assign_result, with_store, value_of_pointers, put_value, exit_value, behind, in_turn, out_of_block, as_block, out_of_turn, turn_of, as_loop, by_truth, act, row, acts}
 use Rattle.core_lang.specs.WellFormed.{IsAmong, IsAtomIn, AreAtomsIn, IsOptionIn, targets, IsActIn, IsRowIn, AreActsIn, assigned_behind, IsFunctionIn}
-use Rattle.core_lang.specs.Laws.WellFormed.{AreAlsoIn, AreAlsoIn-more, AreAlsoIn-assigned}
+use Rattle.core_lang.specs.Laws.WellFormed.{AreAlsoIn, AreAlsoIn-more}
 
 -- the same store, and the same values of all that may be read
 abbrev pub AgreeOn : CoreFunction → (assigned : List ℕ) → State → State → Type 0
