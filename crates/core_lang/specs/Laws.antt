@@ -12,6 +12,7 @@ pub mod Copies
 pub mod Filling
 pub mod Reads
 pub mod Locals
+pub mod Pointers
 pub mod Addresses
 pub mod Statics
 pub mod Layouts

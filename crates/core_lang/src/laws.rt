@@ -3,18 +3,21 @@
 ghost use Rattle.std.specs.Prelude.{◌≡◌, ◌≢◌, ℕ, ◌+◌, ◌<◌, ◌≤◌, List, ◌++◌, Some, None, true, false, slice_get, length};
 ghost use Rattle.word_ops.specs.Store.{Value, Byte, Region, Store, refill_region};
 ghost use Rattle.word_ops.specs.Access.{copy};
+ghost use Rattle.word_ops.specs.Values.{value_of_operation};
+ghost use Rattle.word_ops.specs.Addresses.{IsValueIn};
 ghost use Rattle.word_ops.specs.Changes.{SameRegions, Fades};
 ghost use Rattle.word_ops.specs.Run.{Outside, Run, End, then_do, after_turn};
 ghost use Rattle.word_ops.specs.Following.{Follows};
 ghost use Rattle.word_ops.specs.Clock.{Reaches, IsTimed};
 ghost use Rattle.word_ops.specs.Outcome.{Outcome, IsFurther, IsWithinClock};
 ghost use Rattle.core_lang.specs.declared.act.Atom.{Atom};
+ghost use Rattle.core_lang.specs.declared.act.PointerOp.{PointerOp};
 ghost use Rattle.core_lang.specs.declared.act.Core.{Core};
 ghost use Rattle.core_lang.specs.declared.program.CoreFunction.{CoreFunction};
 ghost use Rattle.core_lang.specs.declared.program.Program.{Program};
 ghost use Rattle.core_lang.specs.Layout.{Layout};
 ghost use Rattle.core_lang.specs.State.{State, Activation, value_of_atom, argument};
-ghost use Rattle.core_lang.specs.Acts.{Invocation, Calls, in_turn, as_block, as_loop, by_truth, turn_of, act, acts};
+ghost use Rattle.core_lang.specs.Acts.{Invocation, Calls, value_of_pointers, operation_of, in_turn, as_block, as_loop, by_truth, turn_of, act, acts};
 ghost use Rattle.core_lang.specs.Run.{calls, first_call, program_from, run_of_core};
 ghost use Rattle.core_lang.specs.Depth.{GoesDeeper};
 ghost use Rattle.core_lang.specs.Following.{OnGives};
@@ -49,6 +52,14 @@ pub fn variables_of_acts()
     ensures others { (vs : List Value) (x : ℕ) → length vs ≤ x → argument vs x ≡ Value.Number 0 }
     ensures unassigned { (call : Calls) (e : Activation) (x : ℕ) (xs : List Core) → places_in x xs ≡ 0 → (s : State)
         (w : Outside) → OnGives (λ (t : State) f. t.vars x ≡ s.vars x) (acts call e xs s w) }
+{}
+
+/// Operations on pointers: each that is defined is an operation on values, and gives a value of the store.
+pub fn operations_on_pointers()
+    ensures operation { (s : Store) (op : PointerOp) (x y v : Value) → value_of_pointers s op x y ≡ Some v →
+        value_of_operation s (operation_of op) x y ≡ Some v }
+    ensures inside { (s : Store) (op : PointerOp) (x y v : Value) → IsValueIn s x → IsValueIn s y →
+        value_of_pointers s op x y ≡ Some v → IsValueIn s v }
 {}
 
 /// Copies and fills: a copy by units is that of all cells, but for cells that it makes Unset, and is defined where that

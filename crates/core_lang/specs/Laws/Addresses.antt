@@ -5,7 +5,6 @@ use Rattle.std.proofs.Math.Nat.{suc-mul}
 use Rattle.std.proofs.lemmas.Option.{slice_get_within}
 use Rattle.std.specs.Prelude.{◌%◌, Option, Some, None, true, false, ◌/◌, ◌^◌, ◌==◌, if◌then◌else◌, take, drop, map, slice_get}
 use Rattle.std.specs.Option.{option_map}
-use Rattle.word_ops.specs.declared.operation.Op.TheVariants.{Add, Sub, Eq, Ltu, Leu}
 use Rattle.word_ops.specs.Store.{Value, Number, Pointer, Cell, Unset, Byte, Part, Region, Store, Shape, shape, shape_at, end_region, end_regions, refill_region}
 use Rattle.word_ops.specs.Access.{load, write, pointer_in}
 use Rattle.word_ops.specs.Values.{value_of_operation}
@@ -16,13 +15,11 @@ use Rattle.word_ops.specs.Laws.Lists.{slice_get-there, slice_get-append_some}
 use Rattle.word_ops.specs.Laws.Regions.{shape_at-region, shape_at-some, change_region-at, end_regions-live, refill_region-shapes, SameRegions-refl, SameRegions-trans, SameRegions-append, SameRegions-ends, SameRegions-length, SameShapes-regions}
 use Rattle.word_ops.specs.Laws.Accesses.{write-shapes}
 use Rattle.word_ops.specs.Laws.Addresses.{AreCellsIn-replicate, cells_from-in, load-in, IsAddressed-puts, IsAddressed-write, IsAddressed-refill, IsAddressed-ends, IsAddressed-append}
-use Rattle.word_ops.specs.Laws.Values.{IsValueIn-same, moved_pointer-operation, pointer_difference-operation, equal_pointers-operation, pointer_before-operation, pointer_at_most-operation}
+use Rattle.word_ops.specs.Laws.Values.{IsValueIn-same}
 use Rattle.word_ops.specs.Laws.Words.{operation-in}
 use Rattle.word_ops.specs.Laws.Runs.{next_word-in}
 use Rattle.core_lang.specs.declared.act.Atom.{Atom}
 use Rattle.core_lang.specs.declared.act.Atom.TheVariants as at
-use Rattle.core_lang.specs.declared.act.PointerOp.{PointerOp}
-use Rattle.core_lang.specs.declared.act.PointerOp.TheVariants.{Offset, Difference, Equal, Before, AtMost}
 use Rattle.core_lang.specs.declared.act.Core.{Core, Row_of-Core, end_of-Core, more_of-Core}
 use Rattle.core_lang.specs.declared.act.Core.TheVariants as c
 use Rattle.core_lang.specs.declared.program.CoreFunction.{CoreFunction}
@@ -35,6 +32,7 @@ use Rattle.core_lang.specs.Run.{local_regions, frame_of, activation_of, first_st
 use Rattle.core_lang.specs.Following.{IsPlainAct, EachAct, EachInRow, EachOf, OnGives, OnReturned, KeepsState}
 use Rattle.core_lang.specs.WellFormed.{targets, IsAtomIn, AreAtomsIn, IsActIn, IsRowIn, AreActsIn, IsWellFormed}
 use Rattle.core_lang.specs.Addresses.{IsLayoutOf, IsFree, IsAligned, NoneLiveBehind, AreValuesIn, IsOptionIn, IsSound, KeepsAddresses, IsCallable}
+use Rattle.core_lang.specs.Laws.Pointers.{pointers-in}
 use Rattle.core_lang.specs.Laws.Locals.{local_regions-at, length-local_regions, local_regions-shape}
 use Rattle.core_lang.specs.Laws.Keeping.{OnGives-then, OnGives-given, Kept, assign-keeps, with_store-keeps, put_value-keeps, exit_value-keeps, get-keeps, call-keeps, acts-keep}
 use Rattle.core_lang.specs.Laws.Regions.{copied-some, copied-shapes, OnGives-branch}
@@ -125,16 +123,6 @@ pub IsAddressed-copied : (s t : Store) (p q : Value) (n a : ℕ) → copied s p 
 IsAddressed-copied s t p q n a e i =
     let h = copied-some s t p q n a e in
     IsAddressed-puts s t p a (in_units (n / a) a h.cells) h.target (in_units_in s (n / a) a h.cells (cells_from-in s q n a h.cells i h.source)) i
-
--- ---- operations on pointers
-
-pointers_in : (s : Store) (op : PointerOp) (x y v : Value) → IsValueIn s x → IsValueIn s y →
-    value_of_pointers s op x y ≡ Some v → IsValueIn s v
-pointers_in s Offset x y v h k e = operation-in s Add x y v h k (moved_pointer-operation s x y v e)
-pointers_in s Difference x y v h k e = operation-in s Sub x y v h k (pointer_difference-operation s x y v e)
-pointers_in s Equal x y v h k e = operation-in s Eq x y v h k (equal_pointers-operation s x y v e)
-pointers_in s Before x y v h k e = operation-in s Ltu x y v h k (pointer_before-operation s x y v e)
-pointers_in s AtMost x y v h k e = operation-in s Leu x y v h k (pointer_at_most-operation s x y v e)
 
 -- ---- acts that are well formed
 
@@ -355,7 +343,7 @@ module _ (l : Layout) (p : Program) (deepest : ℕ) (layout : IsLayoutOf l p dee
       plain_sound (c.Operate x op u v) q f s w h =
           assign_sound x (value_of_operation s.store op (value_of_atom here s u) (value_of_atom here s v)) s w h (λ y d. operation-in s.store op (value_of_atom here s u) (value_of_atom here s v) y (atom_in s f.1 u h f.2.1) (atom_in s f.1 v h f.2.2) d)
       plain_sound (c.Pointer x op u v) q f s w h =
-          assign_sound x (value_of_pointers s.store op (value_of_atom here s u) (value_of_atom here s v)) s w h (λ y d. pointers_in s.store op (value_of_atom here s u) (value_of_atom here s v) y (atom_in s f.1 u h f.2.1) (atom_in s f.1 v h f.2.2) d)
+          assign_sound x (value_of_pointers s.store op (value_of_atom here s u) (value_of_atom here s v)) s w h (λ y d. pointers-in s.store op (value_of_atom here s u) (value_of_atom here s v) y (atom_in s f.1 u h f.2.1) (atom_in s f.1 v h f.2.2) d)
       plain_sound (c.Load x k v) q f s w h =
           assign_sound x (load s.store k (value_of_atom here s v)) s w h (λ y d. load-in s.store k (value_of_atom here s v) y h.addressed d)
       plain_sound (c.Store k u v) q f s w h =
