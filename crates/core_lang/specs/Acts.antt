@@ -1,5 +1,7 @@
 -- What acts do.
 use Rattle.std.specs.Prelude.{ℕ, zero, suc, ◌+◌, List, [], ◌∷◌, Option, Some, None}
+use Rattle.word_ops.specs.declared.operation.Op.{Op}
+use Rattle.word_ops.specs.declared.operation.Op.TheVariants.{Add, Sub, Eq, Ltu, Leu}
 use Rattle.word_ops.specs.Store.{Value, Number, Pointer, Unset, Byte, Store, refill_region}
 use Rattle.word_ops.specs.Access.{load, write}
 use Rattle.word_ops.specs.Values.{value_of_operation, truth, moved_pointer, pointer_difference, equal_pointers, pointer_before, pointer_at_most}
@@ -58,6 +60,14 @@ value_of_pointers s Difference x y = pointer_difference s x y
 value_of_pointers s Equal x y = equal_pointers s x y
 value_of_pointers s Before x y = pointer_before s x y
 value_of_pointers s AtMost x y = pointer_at_most s x y
+
+-- the operation on values that an operation on pointers is, where it is defined
+abbrev pub operation_of : PointerOp → Op
+operation_of Offset = Add
+operation_of Difference = Sub
+operation_of Equal = Eq
+operation_of Before = Ltu
+operation_of AtMost = Leu
 
 -- only a number is put out, and only a number is a status
 abbrev pub put_value : Value → Does

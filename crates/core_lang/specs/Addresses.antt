@@ -1,6 +1,6 @@
 -- When a layout keeps the objects of a program apart, and what stays true of the stores of its runs (the profile's tie to a
 -- machine with a memory of bytes; the meaning of a program knows none of this).
-use Rattle.std.specs.Prelude.{◌≡◌, ◌≢◌, ℕ, ◌+◌, ◌*◌, ◌^◌, ◌<◌, ◌≤◌, ◌⊎◌, true, List, [], ◌∷◌, length, Option, Some, None, slice_get}
+use Rattle.std.specs.Prelude.{◌≡◌, ◌≢◌, ℕ, ◌+◌, ◌*◌, ◌%◌, ◌^◌, ◌<◌, ◌≤◌, ◌⊎◌, true, List, [], ◌∷◌, length, Option, Some, None, slice_get}
 use Rattle.word_ops.specs.Store.{Value, Store, Shape, shape_at}
 use Rattle.word_ops.specs.Addresses.{IsValueIn, IsAddressed}
 use Rattle.word_ops.specs.Changes.{SameRegions}
@@ -23,15 +23,17 @@ pub record IsLayoutOf (l : Layout) (p : Program) (depth : ℕ) : Type 0 where
   pub above_zero : 0 < bottom
   pub top : l.top < 2 ^ 32
   pub room : bottom + depth * largest ≤ l.top
+  -- objects and frames lie at multiples of 8
+  pub top_aligned : l.top % 8 ≡ 0
   -- the static objects lie below it
   pub static : (x : ℕ) (o : StaticObject) → slice_get p.objects x ≡ Some o →
-      (0 < l.static x) × (l.static x + o.size + 8 ≤ bottom)
+      (0 < l.static x) × (l.static x + o.size + 8 ≤ bottom) × (l.static x % 8 ≡ 0)
   pub static_apart : (x y : ℕ) (o q : StaticObject) → slice_get p.objects x ≡ Some o → slice_get p.objects y ≡ Some q →
       x ≢ y → LieApart (l.static x) o.size (l.static y) q.size
   -- the local objects of a function lie in its frame
-  pub frame : (f : ℕ) (g : CoreFunction) → slice_get p.functions f ≡ Some g → l.frame f ≤ largest
+  pub frame : (f : ℕ) (g : CoreFunction) → slice_get p.functions f ≡ Some g → (l.frame f ≤ largest) × (l.frame f % 8 ≡ 0)
   pub local : (f : ℕ) (g : CoreFunction) (x n : ℕ) → slice_get p.functions f ≡ Some g → slice_get g.locals x ≡ Some n →
-      l.local f x + n + 8 ≤ l.frame f
+      (l.local f x + n + 8 ≤ l.frame f) × (l.local f x % 8 ≡ 0)
   pub local_apart : (f : ℕ) (g : CoreFunction) (x y n m : ℕ) → slice_get p.functions f ≡ Some g →
       slice_get g.locals x ≡ Some n → slice_get g.locals y ≡ Some m → x ≢ y →
       LieApart (l.local f x) n (l.local f y) m
@@ -40,6 +42,10 @@ pub record IsLayoutOf (l : Layout) (p : Program) (depth : ℕ) : Type 0 where
 abbrev pub IsFree : (bottom stack : ℕ) → Store → Type 0
 IsFree bottom stack s =
     (r : ℕ) (z : Shape) → shape_at s r ≡ Some z → z.live ≡ true → (z.address + z.size + 8 ≤ bottom) ⊎ (stack ≤ z.address)
+
+-- each live object lies at a multiple of 8, so an access that is aligned in its object is aligned in memory
+abbrev pub IsAligned : Store → Type 0
+IsAligned s = (r : ℕ) (z : Shape) → shape_at s r ≡ Some z → z.live ≡ true → z.address % 8 ≡ 0
 
 -- each live object of the second store is one of the first
 abbrev pub NoneLiveBehind : Store → Store → Type 0
@@ -61,6 +67,7 @@ pub record IsSound (start : Store) (s : State) : Type 0 where
   pub values : (x : ℕ) → IsValueIn s.store (s.vars x)
   pub regions : SameRegions start s.store
   pub live : NoneLiveBehind start s.store
+  pub aligned : IsAligned s.store
 
 -- the same of what a call gives
 pub record KeepsAddresses (start t : Store) (v : Option Value) : Type 0 where
@@ -68,6 +75,7 @@ pub record KeepsAddresses (start t : Store) (v : Option Value) : Type 0 where
   pub value : IsOptionIn t v
   pub regions : SameRegions start t
   pub live : NoneLiveBehind start t
+  pub aligned : IsAligned t
 
 -- a call that may be made, with so many more nested in it, itself counted
 pub record IsCallable (p : Program) (bottom largest depth : ℕ) (c : Invocation) : Type 0 where
@@ -78,3 +86,5 @@ pub record IsCallable (p : Program) (bottom largest depth : ℕ) (c : Invocation
   pub free : IsFree bottom c.stack c.store
   pub room : bottom + depth * largest ≤ c.stack
   pub top : c.stack < 2 ^ 32
+  pub aligned : IsAligned c.store
+  pub stack_aligned : c.stack % 8 ≡ 0

@@ -1,18 +1,19 @@
 -- What the acts of a function count for, how many variables they assign, and how many bytes its objects take: the numbers in
 -- which limits are stated (the profile's limits).
-use Rattle.std.specs.Prelude.{ℕ, zero, suc, ◌+◌, ◌*◌, ◌/◌, ◌%◌, nat_lt, List, [], ◌∷◌, length, Option, Some, None, slice_get}
+use Rattle.std.specs.Prelude.{ℕ, zero, suc, ◌+◌, ◌*◌, ◌/◌, nat_lt, List, [], ◌∷◌, length, Option, Some, None, slice_get}
 use Rattle.word_ops.specs.Word.{number_of_truth}
 use Rattle.core_lang.specs.declared.act.Core.{Core, Row_of-Core, end_of-Core, more_of-Core}
 use Rattle.core_lang.specs.declared.act.Core.TheVariants as c
 use Rattle.core_lang.specs.declared.program.CoreFunction.{CoreFunction}
+use Rattle.core_lang.specs.Filling.{widths_of_fill}
 use Rattle.core_lang.specs.WellFormed.{places_in}
 
 -- ---- acts
 
--- an object is filled by stores of words, and then of a half word and a byte where these are left
+-- how many stores fill an object
 abbrev pub stores_of_fill : Option ℕ → ℕ
 stores_of_fill None = 0
-stores_of_fill (Some size) = size / 4 + size % 4 / 2 + size % 2
+stores_of_fill (Some size) = length (widths_of_fill size)
 
 -- a copy is a load and a store for each unit
 abbrev pub accesses_of_copy : (size alignment : ℕ) → ℕ

@@ -188,6 +188,23 @@ pub drops_nothing_ends : outcome drops_nothing [] 2 100 ≡ ends (Exit 9) [] 1 0
 unfolding computed program down own swap objects drops_nothing
 drops_nothing_ends = refl
 
+-- swap(&a), which takes two
+pub calls_with_one : List Core
+calls_with_one = c.Call None 3 (at.Local 0 ∷ []) ∷ then_nine
+
+-- a function is called with as many arguments as it has parameters
+pub calls_with_one_undefined : outcome calls_with_one [] 2 100 ≡ undefined
+unfolding computed program down own swap objects calls_with_one
+calls_with_one_undefined = refl
+
+-- a function that is not there
+pub calls_none : List Core
+calls_none = c.Call None 9 [] ∷ then_nine
+
+pub calls_none_undefined : outcome calls_none [] 2 100 ≡ undefined
+unfolding computed program down own swap objects calls_none
+calls_none_undefined = refl
+
 -- ---- operations
 
 -- return 7 / b;
@@ -254,6 +271,45 @@ compares_objects = refl
 pub compares_places : outcome (compares 0) [] 1 0 ≡ ends (Exit 0) [] 0 0
 unfolding computed program down own swap objects compares
 compares_places = refl
+
+-- -2^31 divided by a number
+pub divides_least : (b : ℕ) → List Core
+divides_least b = c.Operate 4 op.Divs (at.Word 2147483648) (at.Word b) ∷ c.Return (Some (at.Var 4)) ∷ []
+
+-- by -1 it is 2^31, which is no int, and by 1 itself, whose low byte is 0
+pub divides_least_by_minus_one : outcome (divides_least 4294967295) [] 1 0 ≡ undefined
+unfolding computed program down own swap objects divides_least
+divides_least_by_minus_one = refl
+
+pub divides_least_by_one : outcome (divides_least 1) [] 1 0 ≡ ends (Exit 0) [] 0 0
+unfolding computed program down own swap objects divides_least
+divides_least_by_one = refl
+
+-- 1 << b
+pub shifts_signed : (b : ℕ) → List Core
+shifts_signed b = c.Operate 4 op.Shls (at.Word 1) (at.Word b) ∷ c.Return (Some (at.Var 4)) ∷ []
+
+-- a signed shift does not reach the sign
+pub shifts_into_sign : outcome (shifts_signed 31) [] 1 0 ≡ undefined
+unfolding computed program down own swap objects shifts_signed
+shifts_into_sign = refl
+
+pub shifts_below_sign : outcome (shifts_signed 30) [] 1 0 ≡ ends (Exit 0) [] 0 0
+unfolding computed program down own swap objects shifts_signed
+shifts_below_sign = refl
+
+-- one past the end of the first object, minus an object
+pub differs : (x : ℕ) → List Core
+differs x = c.Pointer 4 pointer.Offset (at.Local 0) (at.Word 8) ∷ c.Pointer 5 pointer.Difference (at.Var 4) (at.Local x) ∷ c.Return (Some (at.Var 5)) ∷ []
+
+-- there is a difference within one object, and none between two
+pub differs_between_objects : outcome (differs 1) [] 1 0 ≡ undefined
+unfolding computed program down own swap objects differs
+differs_between_objects = refl
+
+pub differs_within_object : outcome (differs 0) [] 1 0 ≡ ends (Exit 8) [] 0 0
+unfolding computed program down own swap objects differs
+differs_within_object = refl
 
 -- ---- objects
 
@@ -371,6 +427,62 @@ pub is_null_ends : outcome is_null [] 1 0 ≡ ends (Exit 1) [] 0 0
 unfolding computed program down own swap objects is_null
 is_null_ends = refl
 
+-- if (own()) exit(1); exit(2);
+pub tests_dead : List Core
+tests_dead = c.Call (Some 4) 2 [] ∷ c.If (at.Var 4) (c.Exit (at.Word 1) ∷ []) (c.Exit (at.Word 2) ∷ []) ∷ []
+
+-- a pointer to a dead object has no truth, and one to a live object is true
+pub tests_dead_undefined : outcome tests_dead [] 2 100 ≡ undefined
+unfolding computed program down own swap objects tests_dead
+tests_dead_undefined = refl
+
+pub tests_live : List Core
+tests_live = c.If (at.Local 0) (c.Exit (at.Word 1) ∷ []) (c.Exit (at.Word 2) ∷ []) ∷ []
+
+pub tests_live_true : outcome tests_live [] 1 0 ≡ ends (Exit 1) [] 0 0
+unfolding computed program down own swap objects tests_live
+tests_live_true = refl
+
+-- return own() == 0;
+pub compares_dead : List Core
+compares_dead = c.Call (Some 4) 2 [] ∷ c.Pointer 5 pointer.Equal (at.Var 4) (at.Word 0) ∷ c.Return (Some (at.Var 5)) ∷ []
+
+-- nor is it compared, as one to a live object may be
+pub compares_dead_undefined : outcome compares_dead [] 2 100 ≡ undefined
+unfolding computed program down own swap objects compares_dead
+compares_dead_undefined = refl
+
+pub compares_live : List Core
+compares_live = c.Pointer 5 pointer.Equal (at.Local 0) (at.Word 0) ∷ c.Return (Some (at.Var 5)) ∷ []
+
+pub compares_live_ends : outcome compares_live [] 1 0 ≡ ends (Exit 0) [] 0 0
+unfolding computed program down own swap objects compares_live
+compares_live_ends = refl
+
+-- a pointer is stored, and then a byte of it is read, or the whole
+pub reads_pointer : List Core
+reads_pointer = c.Enter 0 ∷ c.Store width.Word (at.Local 0) (at.Local 1) ∷ c.Load 4 width.U8 (at.Local 0) ∷ then_nine
+
+-- a part of a pointer is not read, and the whole is
+pub reads_part : outcome reads_pointer [] 1 0 ≡ undefined
+unfolding computed program down own swap objects reads_pointer
+reads_part = refl
+
+pub reads_whole : List Core
+reads_whole = c.Enter 0 ∷ c.Store width.Word (at.Local 0) (at.Local 1) ∷ c.Load 4 width.Word (at.Local 0) ∷ c.Pointer 5 pointer.Equal (at.Var 4) (at.Local 1) ∷ c.Return (Some (at.Var 5)) ∷ []
+
+pub reads_whole_ends : outcome reads_whole [] 1 0 ≡ ends (Exit 1) [] 0 0
+unfolding computed program down own swap objects reads_whole
+reads_whole_ends = refl
+
+pub stores_pointer : List Core
+stores_pointer = c.Store width.U16 (at.Local 0) (at.Local 1) ∷ then_nine
+
+-- nor is a part stored
+pub stores_part : outcome stores_pointer [] 1 0 ≡ undefined
+unfolding computed program down own swap objects stores_pointer
+stores_part = refl
+
 -- ---- copies
 
 -- table is copied in units of so many bytes, and the copy's second pointer is followed
@@ -471,3 +583,11 @@ starts_as_zero = c.Return (Some (at.Var 3)) ∷ []
 pub starts_as_zero_ends : outcome starts_as_zero [] 1 0 ≡ ends (Exit 0) [] 0 0
 unfolding computed program down own swap objects starts_as_zero
 starts_as_zero_ends = refl
+
+pub exits_with_pointer : List Core
+exits_with_pointer = c.Exit (at.Local 0) ∷ []
+
+-- and it is no status
+pub exits_with_no_pointer : outcome exits_with_pointer [] 1 100 ≡ undefined
+unfolding computed program down own swap objects exits_with_pointer
+exits_with_no_pointer = refl

@@ -1,5 +1,5 @@
 -- What the laws ask can be met: the program of the examples is well formed, and its layout keeps its objects apart.
-use Rattle.std.specs.Prelude.{◌≡◌, ◌≢◌, ℕ, zero, suc, ◌+◌, ◌*◌, ◌<◌, ◌≤◌, ◌==◌, List, [], ◌∷◌, Some, slice_get}
+use Rattle.std.specs.Prelude.{◌%◌, ◌≡◌, ◌≢◌, ℕ, zero, suc, ◌+◌, ◌*◌, ◌<◌, ◌≤◌, ◌==◌, List, [], ◌∷◌, Some, slice_get}
 use Rattle.std.proofs.Common.{refl, sym, ap, ◌∙◌, subst, arith, inl, inr, ⊎_elim}
 use Rattle.std.proofs.lemmas.Bool.Decides.{eqb_tells}
 use Rattle.std.proofs.lemmas.Option.{none-some, same_Some}
@@ -126,10 +126,11 @@ sum_laid_out = record {
   above_zero = omega arith;
   top = omega arith;
   room = omega arith;
-  static = λ x o e. at_each (λ x o. (0 < spacious.static x) × (spacious.static x + o.size + 8 ≤ 65664)) objects x o ((omega arith, omega arith), ((omega arith, omega arith), tt)) e;
+  top_aligned = refl;
+  static = λ x o e. at_each (λ x o. (0 < spacious.static x) × (spacious.static x + o.size + 8 ≤ 65664) × (spacious.static x % 8 ≡ 0)) objects x o ((omega arith, omega arith, refl), ((omega arith, omega arith, refl), tt)) e;
   static_apart = λ x y o q e f ne. at_each (λ x o. (y : ℕ) (q : StaticObject) → slice_get objects y ≡ Some q → x ≢ y → LieApart (spacious.static x) o.size (spacious.static y) q.size) objects x o ((λ y q f. at_each (λ y q. 0 ≢ y → LieApart (spacious.static 0) 3 (spacious.static y) q.size) objects y q ((λ ne. absurd (ne refl)), ((λ ne. inl (omega arith)), tt)) f), ((λ y q f. at_each (λ y q. 1 ≢ y → LieApart (spacious.static 1) 8 (spacious.static y) q.size) objects y q ((λ ne. inr (omega arith)), ((λ ne. absurd (ne refl)), tt)) f), tt)) e y q f ne;
-  frame = λ f g e. omega arith;
-  local = λ f g x n e h. at_each (λ f g. (x n : ℕ) → slice_get g.locals x ≡ Some n → spacious.local f x + n + 8 ≤ 64) (program sum).functions f g ((λ x n h. at_each (λ x n. 16 * x + n + 8 ≤ 64) (8 ∷ 8 ∷ 4 ∷ []) x n (omega arith, (omega arith, (omega arith, tt))) h), ((λ x n h. absurd (none-some n h)), ((λ x n h. at_each (λ x n. 16 * x + n + 8 ≤ 64) (4 ∷ []) x n (omega arith, tt) h), ((λ x n h. absurd (none-some n h)), tt)))) e x n h;
+  frame = λ f g e. (omega arith, refl);
+  local = λ f g x n e h. at_each (λ f g. (x n : ℕ) → slice_get g.locals x ≡ Some n → (spacious.local f x + n + 8 ≤ 64) × (spacious.local f x % 8 ≡ 0)) (program sum).functions f g ((λ x n h. at_each (λ x n. (16 * x + n + 8 ≤ 64) × (16 * x % 8 ≡ 0)) (8 ∷ 8 ∷ 4 ∷ []) x n ((omega arith, refl), ((omega arith, refl), ((omega arith, refl), tt))) h), ((λ x n h. absurd (none-some n h)), ((λ x n h. at_each (λ x n. (16 * x + n + 8 ≤ 64) × (16 * x % 8 ≡ 0)) (4 ∷ []) x n ((omega arith, refl), tt) h), ((λ x n h. absurd (none-some n h)), tt)))) e x n h;
   local_apart = λ f g x y n m e h k ne. steps_apart x y n m (sizes_small f g x n e h) (sizes_small f g y m e k) ne;
 }
 

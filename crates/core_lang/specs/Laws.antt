@@ -9,6 +9,10 @@ pub mod Keeping
 pub mod Variables
 pub mod Regions
 pub mod Copies
+pub mod Filling
+pub mod Reads
+pub mod Locals
+pub mod Pointers
 pub mod Addresses
 pub mod Statics
 pub mod Layouts

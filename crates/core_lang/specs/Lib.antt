@@ -1,6 +1,7 @@
 pub mod Layout
 pub mod State
 pub mod Copying
+pub mod Filling
 pub mod Acts
 pub mod Run
 pub mod Depth

@@ -7,7 +7,7 @@ ghost use Rattle.core_lang.specs.declared.program.Program.{Program};
 ghost use Rattle.core_lang.specs.WellFormed.{AreActsIn, places_in, IsUnits, IsWellFormed};
 ghost use Rattle.core_lang.specs.Counts.{count_of_acts, assigned_below, bytes_of_objects};
 ghost use Rattle.core_lang.specs.Addresses.{IsLayoutOf};
-ghost use Rattle.core_lang.specs.Examples.{adds, breaks, compares, copies, copies_bytes, copies_on, divides, drops_nothing, echoes, ends, enters_other, enters_twice, falls, fills, follows_table, forever, is_null, keeps_dead, moves, nested_loops, outcome, program, puts_and_exits, puts_pointer, reads_dead, reads_new, reads_string, recursion, returns_large, shifts, spacious, starts_as_zero, sum, swapped, swaps, through_null, undefined, uses_nothing, writes_string, writes_table};
+ghost use Rattle.core_lang.specs.Examples.{adds, breaks, calls_none, calls_with_one, compares, compares_dead, compares_live, copies, copies_bytes, copies_on, differs, divides, divides_least, drops_nothing, echoes, ends, enters_other, enters_twice, exits_with_pointer, falls, fills, follows_table, forever, is_null, keeps_dead, moves, nested_loops, outcome, program, puts_and_exits, puts_pointer, reads_dead, reads_new, reads_pointer, reads_string, reads_whole, recursion, returns_large, shifts, shifts_signed, spacious, starts_as_zero, stores_pointer, sum, swapped, swaps, tests_dead, tests_live, through_null, undefined, uses_nothing, writes_string, writes_table};
 ghost use Rattle.core_lang.specs.Instances.{behind_branch, in_branch, in_both, out_of_one, out_of_two};
 
 use crate::act::{Atom, Core};
@@ -37,6 +37,8 @@ pub fn calls_to_a_depth()
     ensures swapped_ends { outcome swapped [] 2 100 ≡ ends (End.Exit 2) [] 1 0 }
     ensures uses_nothing_undefined { outcome uses_nothing [] 2 100 ≡ undefined }
     ensures drops_nothing_ends { outcome drops_nothing [] 2 100 ≡ ends (End.Exit 9) [] 1 0 }
+    ensures calls_with_one_undefined { outcome calls_with_one [] 2 100 ≡ undefined }
+    ensures calls_none_undefined { outcome calls_none [] 2 100 ≡ undefined }
 {}
 
 /// Operations: each way in which one is undefined, beside a neighbour that is not.
@@ -51,6 +53,12 @@ pub fn operations()
     ensures moves_to_end { outcome (moves 8) [] 1 0 ≡ ends (End.Exit 9) [] 0 0 }
     ensures compares_objects { outcome (compares 1) [] 1 0 ≡ undefined }
     ensures compares_places { outcome (compares 0) [] 1 0 ≡ ends (End.Exit 0) [] 0 0 }
+    ensures divides_least_by_minus_one { outcome (divides_least 4294967295) [] 1 0 ≡ undefined }
+    ensures divides_least_by_one { outcome (divides_least 1) [] 1 0 ≡ ends (End.Exit 0) [] 0 0 }
+    ensures shifts_into_sign { outcome (shifts_signed 31) [] 1 0 ≡ undefined }
+    ensures shifts_below_sign { outcome (shifts_signed 30) [] 1 0 ≡ ends (End.Exit 0) [] 0 0 }
+    ensures differs_between_objects { outcome (differs 1) [] 1 0 ≡ undefined }
+    ensures differs_within_object { outcome (differs 0) [] 1 0 ≡ ends (End.Exit 8) [] 0 0 }
 {}
 
 /// Objects and accesses: entered anew, filled, dead, constant, unset, misaligned, outside, null, each beside a
@@ -71,6 +79,13 @@ pub fn objects_and_accesses()
     ensures follows_table_ends { outcome follows_table [] 1 0 ≡ ends (End.Exit 105) [] 0 0 }
     ensures through_null_undefined { outcome through_null [] 1 0 ≡ undefined }
     ensures is_null_ends { outcome is_null [] 1 0 ≡ ends (End.Exit 1) [] 0 0 }
+    ensures tests_dead_undefined { outcome tests_dead [] 2 100 ≡ undefined }
+    ensures tests_live_true { outcome tests_live [] 1 0 ≡ ends (End.Exit 1) [] 0 0 }
+    ensures compares_dead_undefined { outcome compares_dead [] 2 100 ≡ undefined }
+    ensures compares_live_ends { outcome compares_live [] 1 0 ≡ ends (End.Exit 0) [] 0 0 }
+    ensures reads_part { outcome reads_pointer [] 1 0 ≡ undefined }
+    ensures reads_whole_ends { outcome reads_whole [] 1 0 ≡ ends (End.Exit 1) [] 0 0 }
+    ensures stores_part { outcome stores_pointer [] 1 0 ≡ undefined }
 {}
 
 /// Copies: pointers whole and in part, bytes, and ranges that overlap.
@@ -93,6 +108,7 @@ pub fn input_and_output()
     ensures low_status { outcome returns_large [] 1 100 ≡ ends (End.Exit 44) [] 0 0 }
     ensures puts_no_pointer { outcome puts_pointer [] 1 100 ≡ undefined }
     ensures starts_as_zero_ends { outcome starts_as_zero [] 1 0 ≡ ends (End.Exit 0) [] 0 0 }
+    ensures exits_with_no_pointer { outcome exits_with_pointer [] 1 100 ≡ undefined }
 {}
 
 /// Well-formed programs: one of the examples is well formed, and its layout keeps its objects apart while no more than

@@ -1,25 +1,30 @@
 //! Laws of the definitions that contracts cite. The functions do nothing: each is here for what its contract says, and
 //! the lemmas that other crates' proofs cite stand in `specs/Laws`.
-ghost use Rattle.std.specs.Prelude.{◌≡◌, ◌≢◌, ℕ, ◌+◌, ◌≤◌, List, ◌++◌, Some, None, false, slice_get, length};
-ghost use Rattle.word_ops.specs.Store.{Value, Store};
+ghost use Rattle.std.specs.Prelude.{◌≡◌, ◌≢◌, ℕ, ◌+◌, ◌<◌, ◌≤◌, List, ◌++◌, Some, None, true, false, slice_get, length};
+ghost use Rattle.word_ops.specs.Store.{Value, Byte, Region, Store, refill_region};
 ghost use Rattle.word_ops.specs.Access.{copy};
+ghost use Rattle.word_ops.specs.Values.{value_of_operation};
+ghost use Rattle.word_ops.specs.Addresses.{IsValueIn};
 ghost use Rattle.word_ops.specs.Changes.{SameRegions, Fades};
 ghost use Rattle.word_ops.specs.Run.{Outside, Run, End, then_do, after_turn};
+ghost use Rattle.word_ops.specs.Following.{Follows};
 ghost use Rattle.word_ops.specs.Clock.{Reaches, IsTimed};
 ghost use Rattle.word_ops.specs.Outcome.{Outcome, IsFurther, IsWithinClock};
 ghost use Rattle.core_lang.specs.declared.act.Atom.{Atom};
+ghost use Rattle.core_lang.specs.declared.act.PointerOp.{PointerOp};
 ghost use Rattle.core_lang.specs.declared.act.Core.{Core};
 ghost use Rattle.core_lang.specs.declared.program.CoreFunction.{CoreFunction};
 ghost use Rattle.core_lang.specs.declared.program.Program.{Program};
 ghost use Rattle.core_lang.specs.Layout.{Layout};
 ghost use Rattle.core_lang.specs.State.{State, Activation, value_of_atom, argument};
-ghost use Rattle.core_lang.specs.Acts.{Invocation, Calls, in_turn, as_block, as_loop, by_truth, turn_of, act, acts};
+ghost use Rattle.core_lang.specs.Acts.{Invocation, Calls, value_of_pointers, operation_of, in_turn, as_block, as_loop, by_truth, turn_of, act, acts};
 ghost use Rattle.core_lang.specs.Run.{calls, first_call, program_from, run_of_core};
 ghost use Rattle.core_lang.specs.Depth.{GoesDeeper};
 ghost use Rattle.core_lang.specs.Following.{OnGives};
 ghost use Rattle.core_lang.specs.Copying.{overlap_in_part, copied};
+ghost use Rattle.core_lang.specs.Filling.{widths_of_fill, store_zeros};
 ghost use Rattle.core_lang.specs.Counts.{count_of_acts};
-ghost use Rattle.core_lang.specs.WellFormed.{IsUnits, AreActsIn, assigned_behind, places_in, IsWellFormed};
+ghost use Rattle.core_lang.specs.WellFormed.{IsUnits, AreActsIn, assigned_behind, places_in, IsFunctionIn, IsWellFormed};
 ghost use Rattle.core_lang.specs.Addresses.{IsLayoutOf, KeepsAddresses, IsCallable};
 
 use crate::act::Core;
@@ -49,18 +54,29 @@ pub fn variables_of_acts()
         (w : Outside) → OnGives (λ (t : State) f. t.vars x ≡ s.vars x) (acts call e xs s w) }
 {}
 
-/// Copies: one by units is the copy of all cells, but for cells that it makes Unset, and is defined where that is and the
-/// ranges do not overlap in part.
-pub fn copies_by_units()
+/// Operations on pointers: each that is defined is an operation on values, and gives a value of the store.
+pub fn operations_on_pointers()
+    ensures operation { (s : Store) (op : PointerOp) (x y v : Value) → value_of_pointers s op x y ≡ Some v →
+        value_of_operation s (operation_of op) x y ≡ Some v }
+    ensures inside { (s : Store) (op : PointerOp) (x y v : Value) → IsValueIn s x → IsValueIn s y →
+        value_of_pointers s op x y ≡ Some v → IsValueIn s v }
+{}
+
+/// Copies and fills: a copy by units is that of all cells, but for cells that it makes Unset, and is defined where that
+/// is and the ranges do not overlap in part. An object that lives and is not constant is filled by stores of zeros.
+pub fn copies_and_fills()
     ensures cells { (s t : Store) (p q : Value) (n a : ℕ) → IsUnits n a → copied s p q n a ≡ Some t →
         (u : Store) × (copy s p q n a ≡ Some u) × Fades u t }
     ensures defined { (s u : Store) (p q : Value) (n a : ℕ) → IsUnits n a → overlap_in_part p q n ≡ false →
         copy s p q n a ≡ Some u → (t : Store) × (copied s p q n a ≡ Some t) × Fades u t }
+    ensures filled { (s : Store) (r : ℕ) (g : Region) → slice_get s r ≡ Some g → g.live ≡ true → g.constant ≡ false →
+        store_zeros s r 0 (widths_of_fill (length g.cells)) ≡ Some (refill_region s r (Byte 0)) }
 {}
 
 /// Well-formed acts: two lists are well formed one behind the other where the second is so behind what the first
-/// assigns, a number is assigned in the places of both, and the lists count for what both count for.
-pub fn well_formed_lists()
+/// assigns, a number is assigned in the places of both, and the lists count for what both count for. A well-formed
+/// function does the same whatever its temporaries hold as it begins, so it reads none that it has not assigned.
+pub fn well_formed_acts()
     ensures append { (p : Program) (g : CoreFunction) (k : ℕ) (ts : List ℕ) (xs ys : List Core) →
         AreActsIn p g k ts xs → AreActsIn p g k (assigned_behind xs ts) ys → AreActsIn p g k ts (xs ++ ys) }
     ensures split { (p : Program) (g : CoreFunction) (k : ℕ) (ts : List ℕ) (xs ys : List Core) →
@@ -68,6 +84,9 @@ pub fn well_formed_lists()
     ensures counts { (sizes : List ℕ) (xs ys : List Core) →
         count_of_acts sizes (xs ++ ys) ≡ count_of_acts sizes xs + count_of_acts sizes ys }
     ensures places { (x : ℕ) (xs ys : List Core) → places_in x (xs ++ ys) ≡ places_in x xs + places_in x ys }
+    ensures temporaries { (p : Program) (g : CoreFunction) (call : Calls) (e : Activation) → IsFunctionIn p g →
+        (s t : State) (w : Outside) → ((x : ℕ) → x < g.vars → s.vars x ≡ t.vars x) → s.store ≡ t.store →
+        Follows (λ (s : State) f (t : State) d. (f ≡ d) × (s.store ≡ t.store)) (acts call e g.body s w) (acts call e g.body t w) }
 {}
 
 /// A longer clock: an outcome stays within the clock and the input; one that came otherwise than for want of ticks is

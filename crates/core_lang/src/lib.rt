@@ -4,9 +4,9 @@
 //! numbers, local objects by theirs, and a list of acts, some of which have lists of acts in them:
 //! blocks and loops, which a break leaves, and choices. There is no jump but a break and a return.
 //!
-//! The definitions stand in `specs/`: the state in which acts run in `State`; what acts do in `Acts`
-//! and `Copying`; calls and the run of a program in `Run`; where objects lie in `Layout`; when a
-//! program is well formed in `WellFormed`; what acts count for in `Counts`; when a layout keeps
+//! The definitions stand in `specs/`: the state in which acts run in `State`; what acts do in `Acts`,
+//! `Copying` and `Filling`; calls and the run of a program in `Run`; where objects lie in `Layout`;
+//! when a program is well formed in `WellFormed`; what acts count for in `Counts`; when a layout keeps
 //! objects apart in `Addresses`; what more depth changes in `Depth`; induction over acts in
 //! `Following`. `specs/Laws` has the laws that proofs of other crates cite, by subject, and the
 //! functions of `laws` name the main ones. `specs/Examples` and `specs/Instances` compute closed

@@ -1,13 +1,11 @@
 -- Laws of addresses: with a layout that keeps the objects of a program apart, each store of its runs is addressed, and each
 -- value is one of its store.
-use Rattle.std.proofs.Common.{◌≡◌, refl, sym, ap, ◌∙◌, subst, ℕ, zero, suc, ◌+◌, ◌*◌, ◌≤◌, ◌<◌, ◌⊎◌, inl, inr, ⊎_elim, List, [], ◌∷◌, ◌++◌, length, arith, length-append}
+use Rattle.std.proofs.Common.{◌≡◌, sym, ap, ◌∙◌, subst, ℕ, zero, suc, ◌+◌, ◌*◌, ◌≤◌, ◌<◌, ◌⊎◌, inl, inr, ⊎_elim, List, [], ◌∷◌, ◌++◌, length, arith, length-append}
 use Rattle.std.proofs.Math.Nat.{suc-mul}
-use Rattle.std.proofs.lemmas.List.{length-replicate}
-use Rattle.std.proofs.lemmas.Option.{none-some, same_Some, slice_get_within}
-use Rattle.std.specs.Prelude.{Option, Some, None, true, false, ◌/◌, ◌^◌, ◌==◌, if◌then◌else◌, take, drop, map, slice_get}
+use Rattle.std.proofs.lemmas.Option.{slice_get_within}
+use Rattle.std.specs.Prelude.{◌%◌, Option, Some, None, true, false, ◌/◌, ◌^◌, ◌==◌, if◌then◌else◌, take, drop, map, slice_get}
 use Rattle.std.specs.Option.{option_map}
-use Rattle.word_ops.specs.declared.operation.Op.TheVariants.{Add, Sub, Eq, Ltu, Leu}
-use Rattle.word_ops.specs.Store.{Value, Number, Pointer, Cell, Unset, Byte, Part, Region, Store, Shape, shape, shape_at, new_region, unset_cells, end_region, end_regions, refill_region}
+use Rattle.word_ops.specs.Store.{Value, Number, Pointer, Cell, Unset, Byte, Part, Region, Store, Shape, shape, shape_at, end_region, end_regions, refill_region}
 use Rattle.word_ops.specs.Access.{load, write, pointer_in}
 use Rattle.word_ops.specs.Values.{value_of_operation}
 use Rattle.word_ops.specs.Addresses.{IsOffsetIn, IsValueIn, AreCellsIn, IsAddressed, AreNewTo}
@@ -17,13 +15,11 @@ use Rattle.word_ops.specs.Laws.Lists.{slice_get-there, slice_get-append_some}
 use Rattle.word_ops.specs.Laws.Regions.{shape_at-region, shape_at-some, change_region-at, end_regions-live, refill_region-shapes, SameRegions-refl, SameRegions-trans, SameRegions-append, SameRegions-ends, SameRegions-length, SameShapes-regions}
 use Rattle.word_ops.specs.Laws.Accesses.{write-shapes}
 use Rattle.word_ops.specs.Laws.Addresses.{AreCellsIn-replicate, cells_from-in, load-in, IsAddressed-puts, IsAddressed-write, IsAddressed-refill, IsAddressed-ends, IsAddressed-append}
-use Rattle.word_ops.specs.Laws.Values.{IsValueIn-same, moved_pointer-operation, pointer_difference-operation, equal_pointers-operation, pointer_before-operation, pointer_at_most-operation}
+use Rattle.word_ops.specs.Laws.Values.{IsValueIn-same}
 use Rattle.word_ops.specs.Laws.Words.{operation-in}
 use Rattle.word_ops.specs.Laws.Runs.{next_word-in}
 use Rattle.core_lang.specs.declared.act.Atom.{Atom}
 use Rattle.core_lang.specs.declared.act.Atom.TheVariants as at
-use Rattle.core_lang.specs.declared.act.PointerOp.{PointerOp}
-use Rattle.core_lang.specs.declared.act.PointerOp.TheVariants.{Offset, Difference, Equal, Before, AtMost}
 use Rattle.core_lang.specs.declared.act.Core.{Core, Row_of-Core, end_of-Core, more_of-Core}
 use Rattle.core_lang.specs.declared.act.Core.TheVariants as c
 use Rattle.core_lang.specs.declared.program.CoreFunction.{CoreFunction}
@@ -35,7 +31,9 @@ use Rattle.core_lang.specs.Acts.{Invocation, Calls, Flow, Falls, Leaves, Returne
 use Rattle.core_lang.specs.Run.{local_regions, frame_of, activation_of, first_state, value_given_back, run_body, calls}
 use Rattle.core_lang.specs.Following.{IsPlainAct, EachAct, EachInRow, EachOf, OnGives, OnReturned, KeepsState}
 use Rattle.core_lang.specs.WellFormed.{targets, IsAtomIn, AreAtomsIn, IsActIn, IsRowIn, AreActsIn, IsWellFormed}
-use Rattle.core_lang.specs.Addresses.{IsLayoutOf, IsFree, NoneLiveBehind, AreValuesIn, IsOptionIn, IsSound, KeepsAddresses, IsCallable}
+use Rattle.core_lang.specs.Addresses.{IsLayoutOf, IsFree, IsAligned, NoneLiveBehind, AreValuesIn, IsOptionIn, IsSound, KeepsAddresses, IsCallable}
+use Rattle.core_lang.specs.Laws.Pointers.{pointers-in}
+use Rattle.core_lang.specs.Laws.Locals.{local_regions-at, length-local_regions, local_regions-shape}
 use Rattle.core_lang.specs.Laws.Keeping.{OnGives-then, OnGives-given, Kept, assign-keeps, with_store-keeps, put_value-keeps, exit_value-keeps, get-keeps, call-keeps, acts-keep}
 use Rattle.core_lang.specs.Laws.Regions.{copied-some, copied-shapes, OnGives-branch}
 
@@ -80,6 +78,10 @@ IsOptionIn-ends : (s : Store) (first count : ℕ) (v : Option Value) → IsOptio
 IsOptionIn-ends s first count None h = tt
 IsOptionIn-ends s first count (Some v) h = IsValueIn-ends s first count v h
 
+-- objects that are live are those of the first store, at multiples of 8
+pub IsAligned-behind : (s t : Store) → NoneLiveBehind s t → IsAligned s → IsAligned t
+IsAligned-behind s t h a r z e live = a r z (h r z e live) live
+
 -- ---- cells
 
 pub cells_append : (s : Store) (cs ds : List Cell) → AreCellsIn s cs → AreCellsIn s ds → AreCellsIn s (cs ++ ds)
@@ -121,45 +123,6 @@ pub IsAddressed-copied : (s t : Store) (p q : Value) (n a : ℕ) → copied s p 
 IsAddressed-copied s t p q n a e i =
     let h = copied-some s t p q n a e in
     IsAddressed-puts s t p a (in_units (n / a) a h.cells) h.target (in_units_in s (n / a) a h.cells (cells_from-in s q n a h.cells i h.source)) i
-
--- ---- operations on pointers
-
-pointers_in : (s : Store) (op : PointerOp) (x y v : Value) → IsValueIn s x → IsValueIn s y →
-    value_of_pointers s op x y ≡ Some v → IsValueIn s v
-pointers_in s Offset x y v h k e = operation-in s Add x y v h k (moved_pointer-operation s x y v e)
-pointers_in s Difference x y v h k e = operation-in s Sub x y v h k (pointer_difference-operation s x y v e)
-pointers_in s Equal x y v h k e = operation-in s Eq x y v h k (equal_pointers-operation s x y v e)
-pointers_in s Before x y v h k e = operation-in s Ltu x y v h k (pointer_before-operation s x y v e)
-pointers_in s AtMost x y v h k e = operation-in s Leu x y v h k (pointer_at_most-operation s x y v e)
-
--- ---- the local objects of an activation
-
-pub local_regions-at : (address : ℕ → ℕ) (k : ℕ) (sizes : List ℕ) (i : ℕ) (g : Region) →
-    slice_get (local_regions address k sizes) i ≡ Some g →
-    (n : ℕ) × (slice_get sizes i ≡ Some n) × (g ≡ new_region false (address (k + i)) (unset_cells n))
-local_regions-at address k [] i g e = absurd (none-some g e)
-local_regions-at address k (n ∷ sizes) zero g e =
-    let z : k ≡ k + zero = omega arith in
-    (n, refl, sym (same_Some (new_region false (address k) (unset_cells n)) g e) ∙ ap (λ k. new_region false (address k) (unset_cells n)) z)
-local_regions-at address k (n ∷ sizes) (suc i) g e =
-    let h = local_regions-at address (k + 1) sizes i g e in
-    let z : k + 1 + i ≡ k + suc i = omega arith in
-    (h.0, h.1, h.2 ∙ ap (λ k. new_region false (address k) (unset_cells h.0)) z)
-
-pub length-local_regions : (address : ℕ → ℕ) (k : ℕ) (sizes : List ℕ) →
-    length (local_regions address k sizes) ≡ length sizes
-length-local_regions address k [] = refl
-length-local_regions address k (n ∷ sizes) = ap suc (length-local_regions address (k + 1) sizes)
-
--- the shape of one of them
-pub local_regions-shape : (address : ℕ → ℕ) (sizes : List ℕ) (i : ℕ) (z : Shape) →
-    shape_at (local_regions address 0 sizes) i ≡ Some z →
-    (n : ℕ) × (slice_get sizes i ≡ Some n) × (z ≡ record { size = n; live = true; constant = false; address = address i })
-local_regions-shape address sizes i z e =
-    let g = shape_at-some (local_regions address 0 sizes) i z e in
-    let h = local_regions-at address 0 sizes i g.0 g.1 in
-    let k : 0 + i ≡ i = omega arith in
-    (h.0, h.1, sym g.2 ∙ ap shape h.2 ∙ ap (λ n. record { size = n; live = true; constant = false; address = address (0 + i) }) (length-replicate h.0 Unset) ∙ ap (λ k. record { size = h.0; live = true; constant = false; address = address k }) k)
 
 -- ---- acts that are well formed
 
@@ -208,18 +171,18 @@ module _ (l : Layout) (p : Program) (deepest : ℕ) (layout : IsLayoutOf l p dee
       IsCallable p layout.bottom layout.largest (suc depth) i →
       (layout.bottom + depth * layout.largest ≤ frame_of l i) × (frame_of l i + l.frame i.function ≡ i.stack)
   frame_fits depth i g there callable =
-      let f = layout.frame i.function g there in
+      let f = (layout.frame i.function g there).0 in
       let r : layout.bottom + (depth * layout.largest + layout.largest) ≤ i.stack = subst (λ n. layout.bottom + n ≤ i.stack) (suc-mul depth layout.largest) callable.room in
       (omega (arith, f, r), omega (arith, f, r))
 
   module _ (depth : ℕ) (i : Invocation) (g : CoreFunction) (there : slice_get p.functions i.function ≡ Some g) (callable : IsCallable p layout.bottom layout.largest (suc depth) i) where
     -- each local object lies between the frame's beginning and its end
     local_is : (x : ℕ) (z : Shape) → shape_at (local_regions (λ k. frame_of l i + l.local i.function k) 0 g.locals) x ≡ Some z →
-        (n : ℕ) × (slice_get g.locals x ≡ Some n) × (z.size ≡ n) × (z.address ≡ frame_of l i + l.local i.function x) × (frame_of l i + l.local i.function x + n + 8 ≤ i.stack)
+        (n : ℕ) × (slice_get g.locals x ≡ Some n) × (z.size ≡ n) × (z.address ≡ frame_of l i + l.local i.function x) × (frame_of l i + l.local i.function x + n + 8 ≤ i.stack) × (l.local i.function x % 8 ≡ 0)
     local_is x z e =
         let h = local_regions-shape (λ k. frame_of l i + l.local i.function k) g.locals x z e in
         let f = layout.local i.function g x h.0 there h.1 in
-        (h.0, h.1, ap (λ (z : Shape). z.size) h.2, ap (λ (z : Shape). z.address) h.2, omega (arith, f, (frame_fits depth i g there callable).1))
+        (h.0, h.1, ap (λ (z : Shape). z.size) h.2, ap (λ (z : Shape). z.address) h.2, omega (arith, f.0, (frame_fits depth i g there callable).1), f.1)
 
     abbrev locals : Store
     locals = local_regions (λ k. frame_of l i + l.local i.function k) 0 g.locals
@@ -248,10 +211,6 @@ module _ (l : Layout) (p : Program) (deepest : ℕ) (layout : IsLayoutOf l p dee
           subst (λ (k : Region). AreCellsIn (i.store ++ locals) k.cells) (sym h.2) (AreCellsIn-replicate (i.store ++ locals) h.0 Unset tt);
     }
 
-    pub first_sound : IsSound first.store first
-    first_sound =
-        record { addressed = IsAddressed-append i.store locals locals_new callable.addressed; values = λ x. IsValueIn-same i.store (i.store ++ locals) (argument i.arguments x) (SameRegions-append i.store locals) (argument_in i.store i.arguments x callable.arguments); regions = SameRegions-refl first.store; live = λ r z e live. e }
-
     -- a region of the first store was there before, or is a local object
     where_first : (r : ℕ) (z : Shape) → shape_at first.store r ≡ Some z →
         (shape_at i.store r ≡ Some z) ⊎ ((x : ℕ) × (r ≡ length i.store + x) × (x < length g.locals) × (shape_at locals x ≡ Some z))
@@ -262,6 +221,27 @@ module _ (l : Layout) (p : Program) (deepest : ℕ) (layout : IsLayoutOf l p dee
         (λ b. inr (b.0, b.1, omega (arith, slice_get_within locals b.0 k.0 b.2, length-local_regions (λ k. frame_of l i + l.local i.function k) 0 g.locals), shape_at-region locals b.0 k.0 b.2 ∙ ap Some k.2))
         (slice_get-append_some i.store locals r k.0 k.1)
 
+    frame_aligned : frame_of l i % 8 ≡ 0
+    frame_aligned =
+        let f = (layout.frame i.function g there).1 in
+        let b = (frame_fits depth i g there callable).1 in
+        let s = callable.stack_aligned in omega (arith, f, b, s)
+
+    first_aligned : IsAligned first.store
+    first_aligned r z e live =
+        ⊎_elim
+        (λ a. callable.aligned r z a live)
+        (λ b.
+        let h = local_is b.0 z b.3 in
+        let a = h.3 in
+        let c = h.5 in
+        let d = frame_aligned in omega (arith, a, c, d))
+        (where_first r z e)
+
+    pub first_sound : IsSound first.store first
+    first_sound =
+        record { addressed = IsAddressed-append i.store locals locals_new callable.addressed; values = λ x. IsValueIn-same i.store (i.store ++ locals) (argument i.arguments x) (SameRegions-append i.store locals) (argument_in i.store i.arguments x callable.arguments); regions = SameRegions-refl first.store; live = λ r z e live. e; aligned = first_aligned }
+
     first_length : length first.store ≡ length i.store + length g.locals
     first_length =
         length-append i.store locals ∙ ap (λ n. length i.store + n) (length-local_regions (λ k. frame_of l i + l.local i.function k) 0 g.locals)
@@ -271,7 +251,7 @@ module _ (l : Layout) (p : Program) (deepest : ℕ) (layout : IsLayoutOf l p dee
     pub ends_sound : (s : State) (v : Option Value) → IsSound first.store s → IsOptionIn s.store v →
         KeepsAddresses i.store (end_regions s.store (length i.store) (length g.locals)) v
     ends_sound s v h k =
-        record { addressed = IsAddressed-ends s.store (length i.store) (length g.locals) h.addressed; value = IsOptionIn-ends s.store (length i.store) (length g.locals) v k; regions = SameRegions-ends i.store s.store (length i.store) (length g.locals) (omega arith) (SameRegions-trans i.store first.store s.store (SameRegions-append i.store locals) h.regions); live = none }
+        record { addressed = IsAddressed-ends s.store (length i.store) (length g.locals) h.addressed; aligned = IsAligned-behind i.store (end_regions s.store (length i.store) (length g.locals)) none callable.aligned; value = IsOptionIn-ends s.store (length i.store) (length g.locals) v k; regions = SameRegions-ends i.store s.store (length i.store) (length g.locals) (omega arith) (SameRegions-trans i.store first.store s.store (SameRegions-append i.store locals) h.regions); live = none }
       where
         none : NoneLiveBehind i.store (end_regions s.store (length i.store) (length g.locals))
         none r z e live =
@@ -300,6 +280,8 @@ module _ (l : Layout) (p : Program) (deepest : ℕ) (layout : IsLayoutOf l p dee
       free = free_below s h;
       room = (frame_fits depth i g there callable).0;
       top = omega (arith, below_stack, callable.top);
+      aligned = h.aligned;
+      stack_aligned = frame_aligned;
     }
 
     -- ---- the acts of the called function
@@ -324,7 +306,7 @@ module _ (l : Layout) (p : Program) (deepest : ℕ) (layout : IsLayoutOf l p dee
 
     assigned_sound : (x : ℕ) (v : Value) (s : State) → IsSound first.store s → IsValueIn s.store v →
         IsSound first.store (assigned s x v)
-    assigned_sound x v s h k = record { addressed = h.addressed; values = vars; regions = h.regions; live = h.live }
+    assigned_sound x v s h k = record { addressed = h.addressed; values = vars; regions = h.regions; live = h.live; aligned = h.aligned }
       where
         vars : (y : ℕ) → IsValueIn s.store (if y == x then v else s.vars y)
         vars y = elim (y == x) as (λ b. IsValueIn s.store (if b then v else s.vars y)) [ true ↦ k | false ↦ h.values y ]
@@ -337,7 +319,7 @@ module _ (l : Layout) (p : Program) (deepest : ℕ) (layout : IsLayoutOf l p dee
     stored_sound : (t : Store) (s : State) → IsSound first.store s → SameShapes s.store t → IsAddressed t →
         IsSound first.store (record s { store = t })
     stored_sound t s h k a =
-        record { addressed = a; values = λ x. IsValueIn-same s.store t (s.vars x) (SameShapes-regions s.store t k) (h.values x); regions = SameRegions-trans first.store s.store t h.regions (SameShapes-regions s.store t k); live = λ r z q live. h.live r z (sym (k r) ∙ q) live }
+        record { aligned = λ r z q live. h.aligned r z (sym (k r) ∙ q) live; addressed = a; values = λ x. IsValueIn-same s.store t (s.vars x) (SameShapes-regions s.store t k) (h.values x); regions = SameRegions-trans first.store s.store t h.regions (SameShapes-regions s.store t k); live = λ r z q live. h.live r z (sym (k r) ∙ q) live }
 
     with_store_sound : (o : Option Store) (s : State) (w : Outside) → IsSound first.store s →
         ((t : Store) → o ≡ Some t → SameShapes s.store t × IsAddressed t) →
@@ -348,7 +330,7 @@ module _ (l : Layout) (p : Program) (deepest : ℕ) (layout : IsLayoutOf l p dee
     called_sound : (t : Store) (v : Option Value) (s : State) → IsSound first.store s → KeepsAddresses s.store t v →
         IsSound first.store (record s { store = t })
     called_sound t v s h m =
-        record { addressed = m.addressed; values = λ x. IsValueIn-same s.store t (s.vars x) m.regions (h.values x); regions = SameRegions-trans first.store s.store t h.regions m.regions; live = λ r z q live. h.live r z (m.live r z q live) live }
+        record { aligned = m.aligned; addressed = m.addressed; values = λ x. IsValueIn-same s.store t (s.vars x) m.regions (h.values x); regions = SameRegions-trans first.store s.store t h.regions m.regions; live = λ r z q live. h.live r z (m.live r z q live) live }
 
     next_word_small : (xs : List ℕ) → next_word xs < 2 ^ 32
     next_word_small xs = ⊎_elim (λ a. omega (arith, a)) (λ b. omega (arith, b)) (next_word-in xs)
@@ -361,7 +343,7 @@ module _ (l : Layout) (p : Program) (deepest : ℕ) (layout : IsLayoutOf l p dee
       plain_sound (c.Operate x op u v) q f s w h =
           assign_sound x (value_of_operation s.store op (value_of_atom here s u) (value_of_atom here s v)) s w h (λ y d. operation-in s.store op (value_of_atom here s u) (value_of_atom here s v) y (atom_in s f.1 u h f.2.1) (atom_in s f.1 v h f.2.2) d)
       plain_sound (c.Pointer x op u v) q f s w h =
-          assign_sound x (value_of_pointers s.store op (value_of_atom here s u) (value_of_atom here s v)) s w h (λ y d. pointers_in s.store op (value_of_atom here s u) (value_of_atom here s v) y (atom_in s f.1 u h f.2.1) (atom_in s f.1 v h f.2.2) d)
+          assign_sound x (value_of_pointers s.store op (value_of_atom here s u) (value_of_atom here s v)) s w h (λ y d. pointers-in s.store op (value_of_atom here s u) (value_of_atom here s v) y (atom_in s f.1 u h f.2.1) (atom_in s f.1 v h f.2.2) d)
       plain_sound (c.Load x k v) q f s w h =
           assign_sound x (load s.store k (value_of_atom here s v)) s w h (λ y d. load-in s.store k (value_of_atom here s v) y h.addressed d)
       plain_sound (c.Store k u v) q f s w h =

@@ -65,6 +65,11 @@ copied-copy s t p q n a units e =
     let d = Fades-puts s s t p a h.cells (in_units (n / a) a h.cells) (Fades-refl s) (CellsFade-units (n / a) a h.cells l) h.target in
     (d.0, ap (λ b. when (not b) (initialise_from s p q n a)) h.modifiable ∙ ap (option_and_then (put_cells s p a)) h.source ∙ d.1, d.2)
 
+-- a copy has one result
+same_result : (s t u v : Store) (p q : Value) (n a : ℕ) → copy s p q n a ≡ Some u → copy s p q n a ≡ Some v →
+    Fades v t → Fades u t
+same_result s t u v p q n a e f h = subst (λ u. Fades u t) (same_Some v u (sym f ∙ e)) h
+
 -- where a copy of all cells is defined and the ranges do not overlap in part, one by units is
 pub copy-copied : (s u : Store) (p q : Value) (n a : ℕ) → IsUnits n a → overlap_in_part p q n ≡ false →
     copy s p q n a ≡ Some u → (t : Store) × (copied s p q n a ≡ Some t) × Fades u t
@@ -79,4 +84,4 @@ copy-copied s u p q n a units apart e =
     let put : put_cells s p a ds ≡ Some t = ap (λ p. put_cells s p a ds) h.pointer ∙ ap (put_in s h.region h.offset a ds) h.at ∙ ap (λ m. only_if (may_access h.object m a h.offset) t) same ∙ ap (λ b. only_if b t) h.access in
     let here : copied s p q n a ≡ Some t = ap (λ b. when (not (b || overlap_in_part p q n)) (option_and_then (put_cells s p a) (option_map (in_units (n / a) a) (cells_from s q n a)))) w.0 ∙ ap (λ b. when (not b) (option_and_then (put_cells s p a) (option_map (in_units (n / a) a) (cells_from s q n a)))) apart ∙ ap (λ o. option_and_then (put_cells s p a) (option_map (in_units (n / a) a) o)) c.1 ∙ put in
     let back = copied-copy s t p q n a units here in
-    (t, here, subst (λ u. Fades u t) (same_Some back.0 u (sym {b = Some back.0} back.1 ∙ e)) back.2)
+    (t, here, same_result s t u back.0 p q n a e back.1 back.2)

@@ -130,6 +130,8 @@ module _ (l : Layout) (p : Program) (depth : ℕ) (layout : IsLayoutOf l p depth
     free = λ x z e live. let h = object_is x z e in inl (omega (arith, h.2, h.3, (layout.static x h.0 h.1).1));
     room = layout.room;
     top = layout.top;
+    aligned = λ x z e live. let h = object_is x z e in let a = h.3 in let b = (layout.static x h.0 h.1).2 in omega (arith, a, b);
+    stack_aligned = layout.top_aligned;
   }
 
   pub main-sound : (w : Outside) → OnGives (KeepsAddresses store) (calls l p.functions depth (first_call l p) w)

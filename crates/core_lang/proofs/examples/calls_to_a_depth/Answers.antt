@@ -21,3 +21,9 @@ returns-clause-uses_nothing_undefined c = example.uses_nothing_undefined
 
 pub returns-clause-drops_nothing_ends : goal.returns-clause-drops_nothing_ends
 returns-clause-drops_nothing_ends c = example.drops_nothing_ends
+
+pub returns-clause-calls_with_one_undefined : goal.returns-clause-calls_with_one_undefined
+returns-clause-calls_with_one_undefined c = example.calls_with_one_undefined
+
+pub returns-clause-calls_none_undefined : goal.returns-clause-calls_none_undefined
+returns-clause-calls_none_undefined c = example.calls_none_undefined

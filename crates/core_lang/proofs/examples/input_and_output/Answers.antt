@@ -24,3 +24,6 @@ returns-clause-puts_no_pointer c = example.puts_no_pointer
 
 pub returns-clause-starts_as_zero_ends : goal.returns-clause-starts_as_zero_ends
 returns-clause-starts_as_zero_ends c = example.starts_as_zero_ends
+
+pub returns-clause-exits_with_no_pointer : goal.returns-clause-exits_with_no_pointer
+returns-clause-exits_with_no_pointer c = example.exits_with_no_pointer

@@ -45,3 +45,24 @@ returns-clause-through_null_undefined c = example.through_null_undefined
 
 pub returns-clause-is_null_ends : goal.returns-clause-is_null_ends
 returns-clause-is_null_ends c = example.is_null_ends
+
+pub returns-clause-tests_dead_undefined : goal.returns-clause-tests_dead_undefined
+returns-clause-tests_dead_undefined c = example.tests_dead_undefined
+
+pub returns-clause-tests_live_true : goal.returns-clause-tests_live_true
+returns-clause-tests_live_true c = example.tests_live_true
+
+pub returns-clause-compares_dead_undefined : goal.returns-clause-compares_dead_undefined
+returns-clause-compares_dead_undefined c = example.compares_dead_undefined
+
+pub returns-clause-compares_live_ends : goal.returns-clause-compares_live_ends
+returns-clause-compares_live_ends c = example.compares_live_ends
+
+pub returns-clause-reads_part : goal.returns-clause-reads_part
+returns-clause-reads_part c = example.reads_part
+
+pub returns-clause-reads_whole_ends : goal.returns-clause-reads_whole_ends
+returns-clause-reads_whole_ends c = example.reads_whole_ends
+
+pub returns-clause-stores_part : goal.returns-clause-stores_part
+returns-clause-stores_part c = example.stores_part

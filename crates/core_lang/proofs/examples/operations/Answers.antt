@@ -30,3 +30,21 @@ returns-clause-compares_objects c = example.compares_objects
 
 pub returns-clause-compares_places : goal.returns-clause-compares_places
 returns-clause-compares_places c = example.compares_places
+
+pub returns-clause-divides_least_by_minus_one : goal.returns-clause-divides_least_by_minus_one
+returns-clause-divides_least_by_minus_one c = example.divides_least_by_minus_one
+
+pub returns-clause-divides_least_by_one : goal.returns-clause-divides_least_by_one
+returns-clause-divides_least_by_one c = example.divides_least_by_one
+
+pub returns-clause-shifts_into_sign : goal.returns-clause-shifts_into_sign
+returns-clause-shifts_into_sign c = example.shifts_into_sign
+
+pub returns-clause-shifts_below_sign : goal.returns-clause-shifts_below_sign
+returns-clause-shifts_below_sign c = example.shifts_below_sign
+
+pub returns-clause-differs_between_objects : goal.returns-clause-differs_between_objects
+returns-clause-differs_between_objects c = example.differs_between_objects
+
+pub returns-clause-differs_within_object : goal.returns-clause-differs_within_object
+returns-clause-differs_within_object c = example.differs_within_object

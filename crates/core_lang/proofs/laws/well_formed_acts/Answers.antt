@@ -1,5 +1,6 @@
-use Rattle.core_lang.proofs.laws.well_formed_lists.Goals as goal
+use Rattle.core_lang.proofs.laws.well_formed_acts.Goals as goal
 use Rattle.core_lang.specs.Laws.Counts.{count-append}
+use Rattle.core_lang.specs.Laws.Reads.{body-same}
 use Rattle.core_lang.specs.Laws.WellFormed.{AreActsIn-append, AreActsIn-split, places_in-append}
 
 pub returns-clause-append : goal.returns-clause-append
@@ -13,3 +14,6 @@ returns-clause-places c = places_in-append
 
 pub returns-clause-counts : goal.returns-clause-counts
 returns-clause-counts c = count-append
+
+pub returns-clause-temporaries : goal.returns-clause-temporaries
+returns-clause-temporaries c = body-same
