@@ -125,12 +125,12 @@ pub record Restores {S M : Type 0} (stands : S → World → Type 0) (has : S �
   pub scope : (x : ℕ) → has new x → has at x
 
 -- what a node says of the value of its term
-abbrev pub NodeSays : World → (term : ℕ) → Node → Type 0
-NodeSays w x (nodes.Konst k) = w.values x ≡ Number k
-NodeSays w x (nodes.Root r) = IsOfRoot w r (w.values x)
-NodeSays w x (nodes.Operate op a b) = value_of_operation w.store op (w.values a.0) (w.values b.0) ≡ Some (w.values x)
-NodeSays w x (nodes.Load k p) = Unit {0}
-NodeSays w x nodes.Phi = Unit {0}
+abbrev pub NodeSays : World → Node → Value → Type 0
+NodeSays w (nodes.Konst k) v = v ≡ Number k
+NodeSays w (nodes.Root r) v = IsOfRoot w r v
+NodeSays w (nodes.Operate op a b) v = value_of_operation w.store op (w.values a.0) (w.values b.0) ≡ Some v
+NodeSays w (nodes.Load k p) v = Unit {0}
+NodeSays w nodes.Phi v = Unit {0}
 
 -- ---- loads that are recalled
 

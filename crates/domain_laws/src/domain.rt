@@ -221,7 +221,7 @@ pub trait Domain: Drop {
     ghost fades: { (d : Self) (w : World) (s : Store) → Fades w.store s → stands d w → stands d (with_store w s) };
 
     /// The value of each term in scope is what its node says.
-    ghost node_is: { (d : Self) (w : World) (x : ℕ) → stands d w → has d x → NodeSays w x (node_of d x) };
+    ghost node_is: { (d : Self) (w : World) (x : ℕ) → stands d w → has d x → NodeSays w (node_of d x) (w.values x) };
 
     /// A term that was in scope at a mark stays there until the mark is left.
     ghost older: { (m : Self.Mark) (d e : Self) (x : ℕ) → marked d m e → has e x → has d x };

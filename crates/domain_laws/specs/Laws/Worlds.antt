@@ -92,7 +92,19 @@ MayLoad-inside s k p cells v a c m r = by (decode k cells) refl r
 
 -- ---- nodes in other worlds
 
--- the same value of the term and of the terms of its node
+-- what holds of all terms of one kind holds of a node's terms that are of that kind
+pub IsOverScope-map : (P Q : ℕ → Type 0) (n : Node) → ((y : ℕ) → P y → Q y) → IsOverScope P n → IsOverScope Q n
+IsOverScope-map P Q (nodes.Konst k) f h = tt
+IsOverScope-map P Q (nodes.Root r) f h = tt
+IsOverScope-map P Q (nodes.Operate op a b) f h = (f a.0 h.0, f b.0 h.1)
+IsOverScope-map P Q (nodes.Load k p) f h = f p.0 h
+IsOverScope-map P Q nodes.Phi f h = tt
+
+-- a node has one value at most, but for a root that is no object, a load and a phi
+pub IsAtHome-one : (o : Option ℕ) (v u : Value) → IsAtHome o v → IsAtHome o u → v ≡ u
+IsAtHome-one None v u h k = absurd h
+IsAtHome-one (Some r) v u h k = h ∙ sym k
+
 root_local : (w : World) (u : Values) (r : Root) (v : Value) → IsOfRoot w r v → IsOfRoot (with_values w u) r v
 root_local w u (Global g) v h = h
 root_local w u (Local l) v h = h
@@ -100,14 +112,14 @@ root_local w u (Param i) v h = h
 root_local w u Got v h = h
 root_local w u Called v h = h
 
-pub NodeSays-local : (w : World) (u : Values) (x : ℕ) (n : Node) → w.values x ≡ u x → IsOverScope (λ y. w.values y ≡ u y) n →
-    NodeSays w x n → NodeSays (with_values w u) x n
-NodeSays-local w u x (nodes.Konst k) e o h = sym e ∙ h
-NodeSays-local w u x (nodes.Root r) e o h = root_local w u r (u x) (subst (IsOfRoot w r) e h)
-NodeSays-local w u x (nodes.Operate op a b) e o h =
-    ap (λ y. value_of_operation w.store op y (u b.0)) (sym o.0) ∙ ap (λ y. value_of_operation w.store op (w.values a.0) y) (sym o.1) ∙ h ∙ ap Some e
-NodeSays-local w u x (nodes.Load k p) e o h = tt
-NodeSays-local w u x nodes.Phi e o h = tt
+pub NodeSays-local : (w : World) (u : Values) (n : Node) (v : Value) → IsOverScope (λ y. w.values y ≡ u y) n → NodeSays w n v →
+    NodeSays (with_values w u) n v
+NodeSays-local w u (nodes.Konst k) v o h = h
+NodeSays-local w u (nodes.Root r) v o h = root_local w u r v h
+NodeSays-local w u (nodes.Operate op a b) v o h =
+    ap (λ y. value_of_operation w.store op y (u b.0)) (sym o.0) ∙ ap (λ y. value_of_operation w.store op (w.values a.0) y) (sym o.1) ∙ h
+NodeSays-local w u (nodes.Load k p) v o h = tt
+NodeSays-local w u nodes.Phi v o h = tt
 
 root_store : (w : World) (s : Store) (r : Root) (v : Value) → SameRegions w.store s → IsOfRoot w r v → IsOfRoot (with_store w s) r v
 root_store w s (Global g) v same h = h
@@ -117,12 +129,12 @@ root_store w s Got v same h = h
 root_store w s Called v same h = IsValueIn-same w.store s v same h
 
 -- a store with the same regions changes nothing of what nodes say
-pub NodeSays-store : (w : World) (s : Store) (x : ℕ) (n : Node) → SameRegions w.store s → NodeSays w x n → NodeSays (with_store w s) x n
-NodeSays-store w s x (nodes.Konst k) same h = h
-NodeSays-store w s x (nodes.Root r) same h = root_store w s r (w.values x) same h
-NodeSays-store w s x (nodes.Operate op a b) same h = operation-same w.store s op (w.values a.0) (w.values b.0) (w.values x) same h
-NodeSays-store w s x (nodes.Load k p) same h = tt
-NodeSays-store w s x nodes.Phi same h = tt
+pub NodeSays-store : (w : World) (s : Store) (n : Node) (v : Value) → SameRegions w.store s → NodeSays w n v → NodeSays (with_store w s) n v
+NodeSays-store w s (nodes.Konst k) v same h = h
+NodeSays-store w s (nodes.Root r) v same h = root_store w s r v same h
+NodeSays-store w s (nodes.Operate op a b) v same h = operation-same w.store s op (w.values a.0) (w.values b.0) v same h
+NodeSays-store w s (nodes.Load k p) v same h = tt
+NodeSays-store w s nodes.Phi v same h = tt
 
 pub word_of_term-store : (w : World) (s : Store) (x : ℕ) → SameRegions w.store s → IsValueIn w.store (w.values x) →
     word_of_term (with_store w s) x ≡ word_of_term w x
