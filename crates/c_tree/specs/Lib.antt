@@ -3,3 +3,4 @@ pub mod Spelling
 pub mod Levels
 pub mod Nesting
 pub mod Levelled
+pub mod Examples
