@@ -155,10 +155,11 @@ def place(kind):
 
 
 class Family:
-    """A fold over a cycle: the names of its functions and steps, and what they tell of each type."""
+    """A fold over a cycle: the names of its functions and steps, what they tell of each type, and whether
+    that is told where some names are visible."""
 
-    def __init__(self, module, suffix, step, carrier, imports):
-        self.module, self.suffix, self.step, self.carrier, self.imports = module, suffix, step, carrier, imports
+    def __init__(self, module, suffix, step, carrier, named=False):
+        self.module, self.suffix, self.step, self.carrier, self.named = module, suffix, step, carrier, named
 
     def function(self, kind):
         return f"{snake(kind)}_{self.suffix}"
@@ -168,9 +169,9 @@ class Family:
 
 
 FAMILIES = [
-    Family("Spelling", "spelling", "spelled", lambda kind: "Spelling", ["Spelling"]),
-    Family("Nesting", "nesting", "nested", lambda kind: NESTING.get(kind, "ℕ"), ["Depth"]),
-    Family("Levels", "level", "level_of", lambda kind: f"(With {LEVELS[kind]})", None),
+    Family("Spelling", "spelling", "spelled", lambda kind: "Spelling"),
+    Family("Nesting", "nesting", "nested", lambda kind: NESTING.get(kind, "ℕ")),
+    Family("Levels", "level", "level_of", lambda kind: f"(With {LEVELS[kind]})", named=True),
 ]
 
 
@@ -282,6 +283,12 @@ def equations(family, cycle):
                 layer = f"({kind}-F.{variant}{results})" if parts else f"{kind}-F.{variant}"
                 plain = f"({kind}-F.{variant}{values})" if parts else f"{kind}-F.{variant}"
                 rolls = f"({snake(kind)}.rolls-{variant}{values})" if parts else f"{snake(kind)}.rolls-{variant}"
+                if family.named:
+                    out += [
+                        "", f"pub {name}-{variant} :{binders} (names : Names) → {lhs} names ≡ {step} {layer} names",
+                        f"{name}-{variant}{values} names = ap (λ f. f names) (ap {name} (sym {rolls}) ∙ {name}-roll {plain})",
+                    ]
+                    continue
                 arrow = f"{binders} →" if parts else ""
                 out += [
                     "", f"pub {name}-{variant} :{arrow} {lhs} ≡ {step} {layer}",
@@ -291,6 +298,12 @@ def equations(family, cycle):
             of = "; ".join(
                 f"{field} = {mapped(family, what, f'(out-{kind} node).{field}').removeprefix('(').removesuffix(')')}" if isinstance(what, tuple)
                 else f"{field} = (out-{kind} node).{field}" for field, what in body)
+            if family.named:
+                out += [
+                    "", f"pub {name}-is : (node : {kind}) (names : Names) → {name} node names ≡ {step} (record {{ {of} }}) names",
+                    f"{name}-is node names = ap (λ f. f names) (ap {name} (sym (roll-out-{kind} node)) ∙ {name}-roll (out-{kind} node))",
+                ]
+                continue
             out += [
                 "", f"pub {name}-is : (node : {kind}) → {name} node ≡ {step} (record {{ {of} }})",
                 f"{name}-is node = ap {name} (sym (roll-out-{kind} node)) ∙ {name}-roll (out-{kind} node)",
@@ -311,7 +324,7 @@ def family_file(family, title, cycle):
             out.append("use Rattle.c_tree.specs.Nesting.OfStatements.{Depth}")
     else:
         facts = sorted({LEVELS[kind] for kind in cycle} - {"ℕ", "Bool"})
-        out.append("use Rattle.c_tree.specs.Levels.Names.{With}")
+        out.append("use Rattle.c_tree.specs.Levels.Names.{Names, With}")
         for fact in facts:
             out.append(f"use Rattle.c_tree.specs.Levels.{FACT_FILES[fact]}.{{{fact}}}")
     return out + equations(family, cycle)

@@ -5,3 +5,4 @@ pub mod Nesting
 pub mod Levelled
 pub mod TypedKinds
 pub mod TypedUnits
+pub mod Examples

@@ -11,7 +11,7 @@ use Rattle.c_tree.specs.declared.declaration.Initialiser.TheOpen.{Initialiser-F,
 use Rattle.c_tree.specs.Layers.{InitialiserLayer, InitialiserItemLayer}
 use Rattle.c_tree.specs.declared.declaration.Initialiser.TheFolds.{fold-Initialiser, fold-roll-Initialiser, map-Initialiser, fold-InitialiserItem, fold-roll-InitialiserItem, map-InitialiserItem}
 use Rattle.c_tree.specs.Levels.OfInitialisers.{level_of_initialiser, level_of_initialiser_item}
-use Rattle.c_tree.specs.Levels.Names.{With}
+use Rattle.c_tree.specs.Levels.Names.{Names, With}
 use Rattle.c_tree.specs.Levels.Facts.{ListedFacts}
 
 unfoldable pub initialiser_level : Initialiser → (With Bool)
@@ -32,11 +32,11 @@ initialiser_item_level-roll = fold-roll-InitialiserItem (With Bool) (With Listed
 
 -- ---- one equation for each kind of node
 
-pub initialiser_level-Expression : (value : Expr) → initialiser_level (initialiser.Expression value) ≡ level_of_initialiser (Initialiser-F.Expression value)
-initialiser_level-Expression value = ap initialiser_level (sym (initialiser.rolls-Expression value)) ∙ initialiser_level-roll (Initialiser-F.Expression value)
+pub initialiser_level-Expression : (value : Expr) (names : Names) → initialiser_level (initialiser.Expression value) names ≡ level_of_initialiser (Initialiser-F.Expression value) names
+initialiser_level-Expression value names = ap (λ f. f names) (ap initialiser_level (sym (initialiser.rolls-Expression value)) ∙ initialiser_level-roll (Initialiser-F.Expression value))
 
-pub initialiser_level-List : (from : Pos) (items : List InitialiserItem) (comma : Option Pos) (to : Pos) → initialiser_level (initialiser.List from items comma to) ≡ level_of_initialiser (Initialiser-F.List from (map initialiser_item_level items) comma to)
-initialiser_level-List from items comma to = ap initialiser_level (sym (initialiser.rolls-List from items comma to)) ∙ initialiser_level-roll (Initialiser-F.List from items comma to)
+pub initialiser_level-List : (from : Pos) (items : List InitialiserItem) (comma : Option Pos) (to : Pos) (names : Names) → initialiser_level (initialiser.List from items comma to) names ≡ level_of_initialiser (Initialiser-F.List from (map initialiser_item_level items) comma to) names
+initialiser_level-List from items comma to names = ap (λ f. f names) (ap initialiser_level (sym (initialiser.rolls-List from items comma to)) ∙ initialiser_level-roll (Initialiser-F.List from items comma to))
 
-pub initialiser_item_level-is : (node : InitialiserItem) → initialiser_item_level node ≡ level_of_initialiser_item (record { comma = (out-InitialiserItem node).comma; value = initialiser_level (out-InitialiserItem node).value })
-initialiser_item_level-is node = ap initialiser_item_level (sym (roll-out-InitialiserItem node)) ∙ initialiser_item_level-roll (out-InitialiserItem node)
+pub initialiser_item_level-is : (node : InitialiserItem) (names : Names) → initialiser_item_level node names ≡ level_of_initialiser_item (record { comma = (out-InitialiserItem node).comma; value = initialiser_level (out-InitialiserItem node).value }) names
+initialiser_item_level-is node names = ap (λ f. f names) (ap initialiser_item_level (sym (roll-out-InitialiserItem node)) ∙ initialiser_item_level-roll (out-InitialiserItem node))

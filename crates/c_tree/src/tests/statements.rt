@@ -19,23 +19,22 @@ sizeof ( int ) ? ( pair * ) x : sizeof ~ y ; \"ab\" \"c\" ; 7ul == 8l << 'a' ; ;
 do continue ; while ( x ) ; for ( ; ; ) { } for ( int i = 0 ; i < 3 ; i += 1 ) break ; \
 for ( i ; ; ) ; switch ( x ) { case 1 : default : return ; } if ( x ) ; else ; }";
 
+// `f ( x , y ) . b -> c --`
+fn suffixes(alloc: Global) -> Result<Items<Suffix>, Fail> {
+    let second = items(alloc, [next(Punct::Comma, name(alloc, "y")?)])?;
+    let called = Suffix::CallWith(HERE, name(alloc, "x")?, second, HERE);
+    let member = Suffix::Member(HERE, identifier(alloc, "b")?);
+    let arrow = Suffix::Arrow(HERE, identifier(alloc, "c")?);
+    items(alloc, [called, member, arrow, Suffix::Decrement(HERE)])
+}
+
 // `* p = a [ 0 ] , f ( x , y ) . b -> c --`
 fn postfixes(alloc: Global) -> Result<Expr, Fail> {
     let target = prefixed(alloc, Prefix::Operator(mark(Punct::Star)), name(alloc, "p")?)?;
     let element = postfix(alloc, name(alloc, "a")?, Suffix::Index(HERE, int(0), HERE))?;
     let set = assign(alloc, target, Punct::Assign, element)?;
-    let second = items(alloc, [next(Punct::Comma, name(alloc, "y")?)])?;
-    let suffixes = items(
-        alloc,
-        [
-            Suffix::CallWith(HERE, name(alloc, "x")?, second, HERE),
-            Suffix::Member(HERE, identifier(alloc, "b")?),
-            Suffix::Arrow(HERE, identifier(alloc, "c")?),
-            Suffix::Decrement(HERE),
-        ],
-    )?;
-    let called = Expr::Postfix(Boxed::new(alloc, name(alloc, "f")?)?, suffixes);
-    comma(alloc, set, called)
+    let called = Boxed::new(alloc, name(alloc, "f")?)?;
+    comma(alloc, set, Expr::Postfix(called, suffixes(alloc)?))
 }
 
 fn pointer_to_pair(alloc: Global) -> Result<TypeName, Fail> {

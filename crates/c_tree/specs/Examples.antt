@@ -1,0 +1,3 @@
+-- Small trees, and what the definitions say of them.
+pub mod Built
+pub mod Expressions
