@@ -1,13 +1,11 @@
 -- What the laws ask can be met: a unit that hangs together.
-use Rattle.std.proofs.Common.{◌≡◌, refl, sym, subst, ℕ, zero, suc, List, [], ◌∷◌, arith}
+use Rattle.std.proofs.Common.{◌≡◌, refl, subst, ℕ, zero, suc, [], ◌∷◌, arith}
 use Rattle.std.proofs.lemmas.Option.{none-some, same_Some}
-use Rattle.std.specs.Prelude.{◌^◌, ◌<◌, Option, Some, None, slice_get}
-use Rattle.c_tree.specs.declared.typed.unit.StaticObject.{StaticObject}
+use Rattle.std.specs.Prelude.{Some, slice_get}
 use Rattle.c_tree.specs.declared.typed.unit.TFunction.{TFunction}
-use Rattle.c_tree.specs.declared.typed.unit.Typed.{Typed}
-use Rattle.c_tree.specs.TypedKinds.{Kind, Void, Holds, Signature, Names, word, IsOfKind}
-use Rattle.c_tree.specs.TypedUnits.{signature_of, names_in, IsFunction, LieIn, IsUnit}
-use Rattle.c_meaning.specs.Examples.Trees.{computed, num, var, minus, do_call, return, main_of}
+use Rattle.c_tree.specs.TypedKinds.{Void, word}
+use Rattle.c_tree.specs.TypedUnits.{signature_of, IsFunction, IsUnit}
+use Rattle.c_meaning.specs.Examples.Trees.{computed, num, do_call, return, main_of}
 use Rattle.c_meaning.specs.Examples.Runs.{descends, descent}
 
 -- void f(int n){if(n)f(n-1);}

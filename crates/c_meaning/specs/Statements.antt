@@ -1,11 +1,9 @@
 -- What a statement does (C11 6.8).
-use Rattle.std.specs.Prelude.{ℕ, zero, suc, ◌+◌, Bool, true, false, ◌||◌, ◌==◌, List, [], ◌∷◌, ◌++◌, length, map, Option, Some, None, slice_get, if◌then◌else◌}
-use Rattle.std.specs.Option.{option_map, option_and_then}
-use Rattle.word_ops.specs.Store.{Value, Number, Pointer, Cell, Byte, Region, Store, new_region, unset_cells, end_regions, refill_region}
+use Rattle.std.specs.Prelude.{ℕ, zero, suc, Bool, true, false, ◌||◌, ◌==◌, List, [], ◌∷◌, ◌++◌, length, map, Option, Some, None, slice_get, if◌then◌else◌}
+use Rattle.word_ops.specs.Store.{Value, Pointer, Byte, Region, Store, new_region, unset_cells, end_regions, refill_region}
 use Rattle.word_ops.specs.Access.{put_cells, initialise}
 use Rattle.word_ops.specs.Values.{truth}
-use Rattle.word_ops.specs.Run.{Outside, Run, Gives, Ends, Undefined, then_do, given, branch, Turn, Again, Over, loop}
-use Rattle.c_tree.specs.declared.typed.operator.Scalar.{Scalar}
+use Rattle.word_ops.specs.Run.{Outside, Run, Gives, then_do, given, branch, Turn, Again, Over, loop}
 use Rattle.c_tree.specs.declared.typed.expression.TExpr.{TExpr}
 use Rattle.c_tree.specs.declared.typed.statement.TStmt.{TStmt, Row_of-TStmt, end_of-TStmt, more_of-TStmt, Row_of-Branch, end_of-Branch, more_of-Branch, Row_of-Part, end_of-Part, more_of-Part}
 use Rattle.c_tree.specs.declared.typed.statement.TStmt.TheVariants as s
@@ -17,7 +15,7 @@ use Rattle.c_tree.specs.declared.typed.statement.Initialiser.TheVariants as init
 use Rattle.c_tree.specs.declared.typed.statement.Label.{Label}
 use Rattle.c_tree.specs.declared.typed.statement.Label.TheVariants as label
 use Rattle.c_tree.specs.declared.typed.unit.Object.{Object}
-use Rattle.c_meaning.specs.Environment.{Environment, automatic_place, with_objects}
+use Rattle.c_meaning.specs.Environment.{Environment, with_objects}
 use Rattle.c_meaning.specs.Operators.{width_of}
 use Rattle.c_meaning.specs.Expressions.{Calls, number_of, value}
 

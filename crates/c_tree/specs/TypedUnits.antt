@@ -16,7 +16,7 @@ use Rattle.c_tree.specs.declared.typed.unit.StaticPart.TheVariants as part
 use Rattle.c_tree.specs.declared.typed.unit.StaticObject.{StaticObject}
 use Rattle.c_tree.specs.declared.typed.unit.TFunction.{TFunction}
 use Rattle.c_tree.specs.declared.typed.unit.Typed.{Typed}
-use Rattle.c_tree.specs.TypedKinds.{Kind, Void, Holds, Signature, Names, IsScalar, IsInteger, IsOfKind}
+use Rattle.c_tree.specs.TypedKinds.{Kind, Holds, Signature, Names, IsScalar, IsInteger, IsOfKind}
 
 -- ---- names
 

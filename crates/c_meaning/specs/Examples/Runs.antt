@@ -1,19 +1,18 @@
 -- Whole programs. Ticks: one before each iteration of a loop but its first, one before each call, one after each putchar and
 -- getchar.
-use Rattle.std.specs.Prelude.{◌≡◌, ℕ, ◌^◌, ◌-◌, List, ◌∷◌, [], Some, None}
+use Rattle.std.specs.Prelude.{◌≡◌, ℕ, ◌∷◌, [], Some, None}
 use Rattle.std.proofs.Common.{refl}
 use Rattle.word_ops.specs.declared.operation.Op.TheVariants as op
-use Rattle.word_ops.specs.Run.{Exit, Deep, More}
+use Rattle.word_ops.specs.Run.{Exit, Deep}
 use Rattle.c_tree.specs.declared.typed.operator.Given.TheVariants as giving
 use Rattle.c_tree.specs.declared.typed.operator.Relation.TheVariants as relation
 use Rattle.c_tree.specs.declared.typed.expression.TExpr.{TExpr}
 use Rattle.c_tree.specs.declared.typed.statement.TStmt.{TStmt}
 use Rattle.c_tree.specs.declared.typed.statement.TStmt.TheVariants as s
-use Rattle.c_tree.specs.declared.typed.unit.Object.{Object}
 use Rattle.c_tree.specs.declared.typed.unit.TFunction.{TFunction}
 use Rattle.c_tree.specs.declared.typed.unit.Typed.{Typed}
 use Rattle.c_meaning.specs.Units.{outcome_of_unit}
-use Rattle.c_meaning.specs.Examples.Trees.{computed, int, unsigned, signed_char, char, bool, struct_, pointer_to, word, byte, signed_byte, pointer, object, an_int, an_unsigned, ints, num, uns, null, var, uvar, pvar, var_as, at, static, on, load, to, to_word, to_byte, to_signed_byte, to_bool, negate, not_, member, by, add, sub, div, mul, compare, compare_unsigned, compare_pointers, less, index, plus, minus, is_less, is_equal, set, set_as, store, postfix_plus, prefix_plus, increment, call, getchar, putchar, do_, do_call, begin, begin_as, block, nothing, if_, if_else, branch, any_of, switch, case, default, return, function, procedure, static_as, unit, unit_with, main_of, ends}
+use Rattle.c_meaning.specs.Examples.Trees.{computed, int, unsigned, signed_char, char, bool, struct_, pointer_to, word, byte, signed_byte, pointer, object, an_int, an_unsigned, ints, num, uns, var, uvar, pvar, var_as, at, static, on, load, to, to_word, to_byte, to_signed_byte, to_bool, negate, not_, member, by, sub, mul, compare, compare_unsigned, compare_pointers, less, index, plus, minus, is_less, is_equal, set, set_as, store, postfix_plus, increment, getchar, putchar, do_, do_call, begin, begin_as, block, nothing, if_, branch, any_of, switch, case, default, return, procedure, static_as, unit, unit_with, main_of, ends}
 
 -- int main(void){return 0;}
 pub returns_0 : outcome_of_unit (unit [] (return (num 0) ∷ [])) [] 1 0 ≡ ends (Exit 0) [] 0 0

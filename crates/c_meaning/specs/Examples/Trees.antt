@@ -1,9 +1,9 @@
 -- Words for typed trees, so that the examples read like C.
-use Rattle.std.specs.Prelude.{ℕ, ◌*◌, Bool, true, false, List, [], ◌∷◌, ◌++◌, Option, Some, None}
+use Rattle.std.specs.Prelude.{ℕ, ◌*◌, true, false, List, [], ◌∷◌, ◌++◌, Option, Some, None}
 use Rattle.word_ops.specs.declared.operation.Op.{Op}
 use Rattle.word_ops.specs.declared.operation.Op.TheVariants as op
 use Rattle.word_ops.specs.declared.operation.Width.TheVariants as width
-use Rattle.word_ops.specs.Run.{End, Exit, Deep, More}
+use Rattle.word_ops.specs.Run.{End}
 use Rattle.word_ops.specs.Outcome.{Outcome}
 use Rattle.c_tree.specs.declared.typed.types.Base.{Base}
 use Rattle.c_tree.specs.declared.typed.types.Base.TheVariants as base

@@ -1,13 +1,12 @@
 -- What a statement returns, and what a call gives, is what the function's type has.
-use Rattle.std.proofs.Common.{◌≡◌, refl, sym, ap, ◌∙◌, subst, ℕ, zero, suc, List, [], ◌∷◌, length, arith, ⊎_elim}
+use Rattle.std.proofs.Common.{◌≡◌, refl, sym, subst, ℕ, zero, suc, List, [], ◌∷◌, length, arith, ⊎_elim}
 use Rattle.std.proofs.lemmas.Bool.Decides.{eqb_tells}
 use Rattle.std.specs.Prelude.{◌==◌, map, Bool, true, false, Option, Some, None, slice_get}
 use Rattle.std.specs.Option.{option_map}
 use Rattle.word_ops.specs.declared.operation.Width.TheVariants as width
-use Rattle.word_ops.specs.Store.{Value, Number, Pointer, Byte, Store, end_regions, refill_region}
+use Rattle.word_ops.specs.Store.{Number, Pointer, Byte, Store, end_regions, refill_region}
 use Rattle.word_ops.specs.Access.{put_cells, initialise}
-use Rattle.word_ops.specs.Values.{truth}
-use Rattle.word_ops.specs.Run.{Outside, Run, Gives, then_do, given, branch, Turn, Again, Over, loop}
+use Rattle.word_ops.specs.Run.{Outside, Run, Gives, then_do, given, branch, Turn}
 use Rattle.c_tree.specs.declared.typed.operator.Scalar.{Scalar}
 use Rattle.c_tree.specs.declared.typed.operator.Scalar.TheVariants as scalar
 use Rattle.c_tree.specs.declared.typed.expression.TExpr.{TExpr}
@@ -20,8 +19,8 @@ use Rattle.c_tree.specs.declared.typed.statement.Initialiser.{Initialiser}
 use Rattle.c_tree.specs.declared.typed.statement.Initialiser.TheVariants as initialiser
 use Rattle.c_tree.specs.declared.typed.unit.TFunction.{TFunction}
 use Rattle.c_tree.specs.declared.typed.unit.Typed.{Typed}
-use Rattle.c_tree.specs.TypedKinds.{Kind, Holds, Signature, Names, IsOfKind}
-use Rattle.c_tree.specs.TypedUnits.{with_declared, signature_of, names_in, Jumps, in_loop, in_switch, IsReturnOf, IsStatement, AreStatements, AreBranches, AreParts, IsFunction, IsMain, IsUnit}
+use Rattle.c_tree.specs.TypedKinds.{Holds, Signature, Names}
+use Rattle.c_tree.specs.TypedUnits.{with_declared, signature_of, names_in, Jumps, in_loop, in_switch, IsReturnOf, IsStatement, AreStatements, AreBranches, AreParts, IsMain, IsUnit}
 use Rattle.c_meaning.specs.Environment.{Environment, with_objects}
 use Rattle.c_meaning.specs.Operators.{width_of}
 use Rattle.c_meaning.specs.Expressions.{Invocation, Calls, number_of, value}

@@ -1,5 +1,5 @@
 -- Operators give values of the kinds that stand for them.
-use Rattle.std.proofs.Common.{◌≡◌, refl, sym, ap, ◌∙◌, subst, ℕ, ◌+◌, ◌<◌, arith, ⊎_elim}
+use Rattle.std.proofs.Common.{◌≡◌, refl, sym, ap, ◌∙◌, subst, ℕ, ◌<◌, arith, ⊎_elim}
 use Rattle.std.proofs.lemmas.Bool.{false≢true}
 use Rattle.std.proofs.lemmas.Bool.Decides.{eqb_tells}
 use Rattle.std.proofs.lemmas.Option.{none-some, same_Some, option_and_then_some}
@@ -9,12 +9,12 @@ use Rattle.word_ops.specs.declared.operation.Op.{Op}
 use Rattle.word_ops.specs.declared.operation.Op.TheVariants as op
 use Rattle.word_ops.specs.declared.operation.Width.{Width}
 use Rattle.word_ops.specs.declared.operation.Width.TheVariants as width
-use Rattle.word_ops.specs.Choice.{only_if, when}
+use Rattle.word_ops.specs.Choice.{only_if}
 use Rattle.word_ops.specs.Word.{number_of_truth, word_of_integer}
-use Rattle.word_ops.specs.Operation.{machine_word, word_of_operation}
+use Rattle.word_ops.specs.Operation.{word_of_operation}
 use Rattle.word_ops.specs.Store.{Value, Number, Pointer, Store, Shape, shape_at, is_live}
-use Rattle.word_ops.specs.Access.{narrowed_to, IsInRange, is_kept_by, load, load_integer, load_pointer, pointer_only, write}
-use Rattle.word_ops.specs.Values.{pointer_within, value_of_operation, truth, is_pointer, is_pointer_or_null, equal_pointers, pointer_before, pointer_at_most, place_within, pointer_plus, pointer_minus}
+use Rattle.word_ops.specs.Access.{narrowed_to, IsInRange, is_kept_by, load, pointer_only, write}
+use Rattle.word_ops.specs.Values.{value_of_operation, truth, is_pointer, is_pointer_or_null, equal_pointers, pointer_before, pointer_at_most, place_within, pointer_plus, pointer_minus}
 use Rattle.word_ops.specs.Laws.Lists.{only_if-some, when-some}
 use Rattle.word_ops.specs.Laws.Operations.{word_of_operation-small, word_of_integer-small, number_of_truth-le}
 use Rattle.word_ops.specs.Laws.Widths.{narrowed_to-small, narrowed_to-in_range, narrowed_to-is}
@@ -39,7 +39,7 @@ use Rattle.c_tree.specs.declared.typed.operator.Primary.{Primary}
 use Rattle.c_tree.specs.declared.typed.operator.Primary.TheVariants as primary
 use Rattle.c_tree.specs.declared.typed.operator.Unary.{Unary}
 use Rattle.c_tree.specs.declared.typed.operator.Unary.TheVariants as unary
-use Rattle.c_tree.specs.TypedKinds.{Kind, Void, Holds, Names, word, IsScalar, IsInteger, IsPointer, Converts, ArithmeticGives, ChangesBy, Changes, Increments, UnaryGives, PrimaryGives}
+use Rattle.c_tree.specs.TypedKinds.{Kind, Void, Holds, Names, word, IsInteger, IsPointer, Converts, ArithmeticGives, ChangesBy, Changes, Increments, UnaryGives, PrimaryGives}
 use Rattle.c_meaning.specs.Environment.{Environment, automatic_place, static_place}
 use Rattle.c_meaning.specs.Operators.{value_at, narrowed_value, truth_value, converted, related, integers_compared, unequal_pointers, pointers_compared, bytes_moved, moved_forward, moved_back, elements_in, elements_between, arithmetic_value, Changed, unchanged, stored, operated, assigned_by, assigned, given_of, incremented, primary_value, negated, unary_value, width_of}
 use Rattle.c_meaning.specs.Kinds.{IsValueOf}

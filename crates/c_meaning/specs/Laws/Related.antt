@@ -1,10 +1,10 @@
 -- Where calls are related by a congruence, so are the runs of expressions, statements and functions with these calls in them.
-use Rattle.std.proofs.Common.{◌≡◌, refl, ℕ, zero, suc, List, [], ◌∷◌, ◌++◌, length}
-use Rattle.std.specs.Prelude.{◌%◌, ◌==◌, map, Bool, true, false, Option, Some, None, slice_get}
+use Rattle.std.proofs.Common.{ℕ, zero, suc, List, [], ◌∷◌, length}
+use Rattle.std.specs.Prelude.{◌%◌, ◌==◌, map, Bool, true, Option, Some, None, slice_get}
 use Rattle.word_ops.specs.Store.{Value, Number, Pointer, Byte, Store, end_regions, refill_region}
 use Rattle.word_ops.specs.Access.{put_cells, initialise}
 use Rattle.word_ops.specs.Values.{truth}
-use Rattle.word_ops.specs.Run.{Outside, Run, Gives, then_do, given, branch, tick, Turn, Again, Over, put_byte, exit_with}
+use Rattle.word_ops.specs.Run.{Outside, Run, Gives, then_do, given, branch, Turn, Again, Over, put_byte, exit_with}
 use Rattle.c_tree.specs.declared.typed.expression.TExpr.{TExpr, Row_of-TExpr, end_of-TExpr, more_of-TExpr, Row_of-Step, end_of-Step, more_of-Step, Row_of-Arm, end_of-Arm, more_of-Arm, Row_of-Target, end_of-Target, more_of-Target}
 use Rattle.c_tree.specs.declared.typed.expression.TExpr.TheVariants as x
 use Rattle.c_tree.specs.declared.typed.expression.Step.TheVariants as step
