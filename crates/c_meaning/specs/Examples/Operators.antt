@@ -19,7 +19,7 @@ use Rattle.c_tree.specs.declared.typed.statement.TStmt.{TStmt}
 use Rattle.c_tree.specs.declared.typed.statement.TStmt.TheVariants as s
 use Rattle.c_tree.specs.declared.typed.unit.Object.{Object}
 use Rattle.c_meaning.specs.Units.{outcome_of_unit}
-use Rattle.c_meaning.specs.Examples.Trees.{computed, int, char, signed_char, unsigned_short, bool, void, pointer_to, array_of, word, byte, signed_byte, half, pointer, object, an_int, a_pointer, ints, num, uns, var_as, var, pvar, at, on, load, to, to_word, to_byte, to_signed_byte, to_half, to_bool, to_pointer, negate, complement, not_, by, add, mul, div, compare_unsigned, compare_pointers, less, index, plus, minus, is_equal, element, set_as, set, set_by, postfix_plus, prefix_plus, all_of, any_of, arm, choose, comma, call, getchar, putchar, dropped, do_, do_call, begin, begin_as, begin_with, int_at, block, return, function, procedure, unit, unit_with, main_of, ends}
+use Rattle.c_meaning.specs.Examples.Trees.{computed, int, char, signed_char, unsigned_short, bool, void, pointer_to, array_of, word, byte, signed_byte, half, pointer, object, an_int, a_pointer, ints, num, uns, var_as, var, pvar, at, on, load, to, to_word, to_byte, to_signed_byte, to_half, to_bool, to_pointer, negate, complement, not_, by, add, mul, div, compare_unsigned, compare_pointers, less, index, plus, minus, is_equal, element, set_as, set, set_by, postfix_plus, prefix_plus, all_of, any_of, arm, choose, comma, call, getchar, putchar, dropped, do_, do_call, begin, begin_as, begin_with, int_at, group, return, function, procedure, unit, unit_with, main_of, ends}
 
 -- the outcome of a main with these objects, without input
 abbrev outcome : List Object → List TStmt → Option Outcome
@@ -56,7 +56,7 @@ unfolding computed
 designator_first = refl
 
 -- int f(int a,int b){return a-b;}int main(void){int i=7;return f(i++,i);}: arguments from left to right
-pub arguments_in_order : outcome_of_unit (unit_with [] (function (an_int ∷ an_int ∷ []) (return (minus (var 0) (var 1))) ∷ main_of (an_int ∷ []) (begin 0 (num 7) ∷ return (call 0 (postfix_plus 0 ∷ var 0 ∷ [])) ∷ []) ∷ []) 1) [] 10 1000 ≡ ends (Exit 255) [] 1 0
+pub arguments_in_order : outcome_of_unit (unit_with [] (function (an_int ∷ an_int ∷ []) (group (return (minus (var 0) (var 1)) ∷ [])) ∷ main_of (an_int ∷ []) (begin 0 (num 7) ∷ return (call 0 (postfix_plus 0 ∷ var 0 ∷ [])) ∷ []) ∷ []) 1) [] 10 1000 ≡ ends (Exit 255) [] 1 0
 unfolding computed
 arguments_in_order = refl
 
@@ -139,7 +139,7 @@ abbrev bool_down : TStmt
 bool_down = do_ (x.Primary bool (primary.Increment 0 (record { scalar = byte; operator = arithmetic.Word op.Subs; conversion = to_bool; given = giving.Old })))
 
 abbrev bool_after : List TStmt → Option Outcome
-bool_after ss = outcome (object bool (Some byte) 1 1 ∷ []) (begin_as byte 0 (on bool (num 0) (to to_bool ∷ [])) ∷ block [] ss ∷ return (on int (var_as bool byte 0) (to to_word ∷ [])) ∷ [])
+bool_after ss = outcome (object bool (Some byte) 1 1 ∷ []) (begin_as byte 0 (on bool (num 0) (to to_bool ∷ [])) ∷ group ss ∷ return (on int (var_as bool byte 0) (to to_word ∷ [])) ∷ [])
 
 pub bool_below_0 : bool_after (bool_down ∷ []) ≡ ends (Exit 1) [] 0 0
 unfolding computed
@@ -191,7 +191,7 @@ same_place = refl
 -- ---- the library
 
 -- void f(void){exit(259);}int main(void){f();return 1;}
-pub exit_in_a_call : outcome_of_unit (unit_with [] (procedure [] (s.Evaluate (x.Exit void (num 259))) ∷ main_of [] (do_call 0 [] ∷ return (num 1) ∷ []) ∷ []) 1) [] 10 1000 ≡ ends (Exit 3) [] 1 0
+pub exit_in_a_call : outcome_of_unit (unit_with [] (procedure [] (group (s.Evaluate (x.Exit void (num 259)) ∷ [])) ∷ main_of [] (do_call 0 [] ∷ return (num 1) ∷ []) ∷ []) 1) [] 10 1000 ≡ ends (Exit 3) [] 1 0
 unfolding computed
 exit_in_a_call = refl
 

@@ -18,8 +18,9 @@ use Rattle.c_tree.specs.declared.typed.statement.Initialiser.{Initialiser}
 use Rattle.c_tree.specs.declared.typed.statement.Initialiser.TheVariants as initialiser
 use Rattle.c_tree.specs.declared.typed.unit.TFunction.{TFunction}
 use Rattle.c_tree.specs.declared.typed.unit.Typed.{Typed}
+use Rattle.c_tree.specs.TypedKinds.{width_of}
 use Rattle.c_meaning.specs.Environment.{Environment, automatic_place, with_objects}
-use Rattle.c_meaning.specs.Operators.{Changed, arithmetic_value, assigned, primary_value, unary_value, width_of}
+use Rattle.c_meaning.specs.Operators.{Changed, arithmetic_value, assigned, primary_value, unary_value}
 use Rattle.c_meaning.specs.Expressions.{Invocation, Calls, gives_changed, number_of, put_value, exit_value, called, called_only, by_truth, gives_number, value, stepped, values, every, some, chosen, assigning}
 use Rattle.c_meaning.specs.Statements.{Done, Normal, Breaks, Continues, Returns, with_new_objects, in_block, piece_set, pieces_set, initialised, holds, holds_if_any, evaluated_if_any, next, after_body, again, loop_left, while_holds, first_part, after_switch, statement, statements, first_holding, statements_from}
 use Rattle.c_meaning.specs.Units.{with_arguments, value_of_body, body_run, function_run}
