@@ -17,7 +17,6 @@ use Rattle.c_tree.specs.declared.typed.statement.Label.TheVariants as label
 use Rattle.c_tree.specs.declared.typed.unit.Object.{Object}
 use Rattle.c_tree.specs.TypedKinds.{width_of}
 use Rattle.c_meaning.specs.Environment.{Environment, with_objects}
-
 use Rattle.c_meaning.specs.Expressions.{Calls, number_of, value}
 
 -- how a statement is left: at its end, or by a jump (C11 6.8.6)

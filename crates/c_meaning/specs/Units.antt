@@ -15,7 +15,6 @@ use Rattle.c_tree.specs.declared.typed.unit.TFunction.{TFunction}
 use Rattle.c_tree.specs.declared.typed.unit.Typed.{Typed}
 use Rattle.c_tree.specs.TypedKinds.{width_of}
 use Rattle.c_meaning.specs.Environment.{with_objects}
-
 use Rattle.c_meaning.specs.Expressions.{Invocation, Calls}
 use Rattle.c_meaning.specs.Statements.{Done, Normal, Breaks, Continues, Returns, new_object, statement}
 

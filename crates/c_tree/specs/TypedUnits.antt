@@ -1,5 +1,5 @@
 -- What hangs together in typed statements, functions and units.
-use Rattle.std.specs.Prelude.{◌≡◌, ℕ, ◌+◌, ◌^◌, ◌≤◌, ◌%◌, Bool, true, false, List, [], ◌∷◌, ◌++◌, ◌⊎◌, length, map, Option, Some, None, slice_get}
+use Rattle.std.specs.Prelude.{◌≡◌, ℕ, ◌+◌, ◌≤◌, ◌%◌, Bool, true, false, List, [], ◌∷◌, ◌++◌, ◌⊎◌, length, map, Option, Some, None, slice_get}
 use Rattle.word_ops.specs.declared.operation.Width.TheVariants as width
 use Rattle.word_ops.specs.Access.{bytes_of}
 use Rattle.c_tree.specs.declared.typed.operator.Scalar.{Scalar}

@@ -91,6 +91,7 @@ twice_a_byte_is_even = refl
 abbrev pub number_put : TFunction
 number_put = procedure (an_unsigned ∷ []) (group (if_ (on int (uvar 0) (compare_unsigned relation.Greater (uns 9) ∷ [])) (do_call 0 (on unsigned (uvar 0) (by op.Divu (uns 10) ∷ []) ∷ [])) ∷ do_ (putchar (on int (num 48) (to to_word ∷ by op.Add (on unsigned (uvar 0) (by op.Remu (uns 10) ∷ [])) ∷ to to_word ∷ []))) ∷ []))
 
+-- static void num(unsigned n){if(n>9u)num(n/10u);putchar('0'+n%10u);}
 -- int main(void){unsigned a=0xFFFFFFFF;num(a+1);putchar(' ');num(0u-1);return 0;}
 abbrev pub unsigned_wraps : Typed
 unsigned_wraps = unit_with [] (number_put ∷ main_of (an_unsigned ∷ []) (begin 0 (uns 0xFFFFFFFF) ∷ do_call 0 (on unsigned (uvar 0) (by op.Add (on unsigned (num 1) (to to_word ∷ [])) ∷ []) ∷ []) ∷ do_ (putchar (num 32)) ∷ do_call 0 (on unsigned (uns 0) (by op.Sub (on unsigned (num 1) (to to_word ∷ [])) ∷ []) ∷ []) ∷ return (num 0) ∷ []) ∷ []) 1
@@ -150,17 +151,18 @@ pub bool_is_1 : outcome_of_unit (unit (object bool (Some byte) 1 1 ∷ []) (begi
 unfolding computed
 bool_is_1 = refl
 
--- static void num(unsigned n){..} as above, and
--- int main(void){unsigned lines=0,words=0,bytes=0;_Bool in=0;int c,last='\n';
---   while((c=getchar())!=-1){bytes++;if(c=='\n')lines++;
---     if(c==' '||c=='\n'||c=='\t')in=0;else if(!in){in=1;words++;}last=c;}
---   if(last!='\n')lines++;num(lines);putchar(' ');num(words);putchar(' ');num(bytes);putchar('\n');return 0;}
+-- the statement n++ and the test c=='b' of the word count
 abbrev counted : ℕ → TStmt
 counted i = do_ (increment op.Add giving.Old i)
 
 abbrev is_byte : ℕ → TExpr
 is_byte b = is_equal (var 4) (num b)
 
+-- static void num(unsigned n){if(n>9u)num(n/10u);putchar('0'+n%10u);}
+-- int main(void){unsigned lines=0,words=0,bytes=0;_Bool in=0;int c,last='\n';
+--   while((c=getchar())!=-1){bytes++;if(c=='\n')lines++;
+--     if(c==' '||c=='\n'||c=='\t')in=0;else if(!in){in=1;words++;}last=c;}
+--   if(last!='\n')lines++;num(lines);putchar(' ');num(words);putchar(' ');num(bytes);putchar('\n');return 0;}
 abbrev pub word_count : Typed
 word_count = unit_with [] (number_put ∷ main_of (an_unsigned ∷ an_unsigned ∷ an_unsigned ∷ object bool (Some byte) 1 1 ∷ an_int ∷ an_int ∷ []) (begin 0 (on unsigned (num 0) (to to_word ∷ [])) ∷ begin 1 (on unsigned (num 0) (to to_word ∷ [])) ∷ begin 2 (on unsigned (num 0) (to to_word ∷ [])) ∷ begin_as byte 3 (on bool (num 0) (to to_bool ∷ [])) ∷ begin 5 (num 10) ∷ s.While (on int (set 4 getchar) (compare relation.NotEqual (on int (num 1) (negate ∷ [])) ∷ [])) (group (counted 2 ∷ if_ (is_byte 10) (counted 0) ∷ s.If (branch (any_of (is_byte 32 ∷ is_byte 10 ∷ is_byte 9 ∷ [])) (do_ (set_as bool byte None to_bool 3 (num 0))) ∷ branch (on int (var_as bool byte 3) (not_ ∷ [])) (group (do_ (set_as bool byte None to_bool 3 (num 1)) ∷ counted 1 ∷ [])) ∷ []) nothing ∷ do_ (set 5 (var 4)) ∷ [])) ∷ if_ (on int (var 5) (compare relation.NotEqual (num 10) ∷ [])) (counted 0) ∷ do_call 0 (uvar 0 ∷ []) ∷ do_ (putchar (num 32)) ∷ do_call 0 (uvar 1 ∷ []) ∷ do_ (putchar (num 32)) ∷ do_call 0 (uvar 2 ∷ []) ∷ do_ (putchar (num 10)) ∷ return (num 0) ∷ []) ∷ []) 1
 

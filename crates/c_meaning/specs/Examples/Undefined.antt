@@ -12,7 +12,7 @@ use Rattle.c_tree.specs.declared.typed.expression.TExpr.TheVariants as x
 use Rattle.c_tree.specs.declared.typed.statement.TStmt.{TStmt}
 use Rattle.c_tree.specs.declared.typed.unit.Object.{Object}
 use Rattle.c_meaning.specs.Units.{outcome_of_unit}
-use Rattle.c_meaning.specs.Examples.Trees.{computed, int, char, void, struct_, pointer_to, array_of, constant, word, byte, pointer, object, an_int, a_pointer, ints, chars, num, uns, null, var, pvar, at, static, on, load, to, to_word, to_byte, to_bool, to_pointer, negate, not_, member, by, sub, compare_pointers, equal, index, index_unsigned, back, difference, plus, element, set_pointer, store_as, store, comma, call, dropped, do_, do_call, begin, begin_as, begin_with, int_at, block, group, nothing, if_, return, function, static_as, literal, unit, unit_with, main_of, ends}
+use Rattle.c_meaning.specs.Examples.Trees.{computed, int, char, void, struct_, pointer_to, array_of, constant, word, byte, pointer, object, an_int, a_pointer, ints, chars, num, uns, null, var, pvar, at, static, on, load, to, to_word, to_byte, to_bool, to_pointer, negate, not_, member, by, sub, compare_pointers, equal, index, index_unsigned, back, difference, plus, element, set_pointer, store_as, store, comma, call, do_, do_call, begin, begin_as, begin_with, int_at, block, group, nothing, if_, return, function, static_as, literal, unit, unit_with, main_of, ends}
 
 -- the outcome of a main with these objects, without input
 abbrev outcome : List Object → List TStmt → Option Outcome
