@@ -23,7 +23,7 @@ use Rattle.c_tree.specs.TypedKinds.{Holds, Signature, Names, width_of}
 use Rattle.c_tree.specs.TypedUnits.{with_declared, signature_of, names_in, Jumps, in_loop, in_switch, declared_in, declared_in_all, declared_in_branches, IsReturnOf, IsStatement, AreStatements, AreBranches, AreParts, IsMain, IsUnit}
 use Rattle.c_meaning.specs.Environment.{Environment, with_objects}
 use Rattle.c_meaning.specs.Expressions.{Invocation, Calls, number_of, value}
-use Rattle.c_meaning.specs.Statements.{Done, Normal, Breaks, Continues, Returns, with_new_objects, in_block, piece_set, pieces_set, initialised, holds, holds_if_any, evaluated_if_any, next, after_body, again, loop_left, while_holds, first_part, after_switch, statement, statements, first_holding, statements_from}
+use Rattle.c_meaning.specs.Statements.{Done, Normal, Breaks, Continues, Returns, with_new_objects, in_block, piece_set, pieces_set, initialised, holds, holds_if_any, evaluated_if_any, next, after_body, again, loop_left, where_holds, behind_body, next_iteration, first_part, after_switch, switch_body, statement, statements, first_holding, statements_from}
 use Rattle.c_meaning.specs.Units.{with_arguments, at_closing_brace, value_of_body, body_run, function_run, calls}
 use Rattle.c_meaning.specs.Kinds.{IsValueOf, IsResultOf, IsResultIn, IsDoneOf, GivesSuch}
 use Rattle.c_meaning.specs.Laws.ValueKinds.{such-then, such-given, such-branch, such-any, IsTurnOf, such-loop, value-kind}
@@ -75,11 +75,21 @@ module _ (call : Calls) (k : Option Scalar) where
   after_switch-such Continues h = tt
   after_switch-such (Returns v) h = h
 
-  while_holds-such : (r : Run Store Bool) (f : Store → Outside → Run Store (Turn Done)) →
-      ((st : Store) (w : Outside) → GivesSuch (IsTurnOf (IsDoneOf k)) (f st w)) →
-      GivesSuch (IsTurnOf (IsDoneOf k)) (while_holds r f)
-  while_holds-such r f h =
-      such-then (λ b. Unit {0}) (IsTurnOf (IsDoneOf k)) r (λ st w b. branch b f loop_left st w) (such-any r) (λ st w b q. such-branch (IsTurnOf (IsDoneOf k)) b f loop_left st w (h st w) tt)
+  where_holds-such : (h : Store → Outside → Run Store Bool) (f : Store → Outside → Run Store (Turn Done)) →
+      ((st : Store) (w : Outside) → GivesSuch (IsTurnOf (IsDoneOf k)) (f st w)) → (st : Store) (w : Outside) →
+      GivesSuch (IsTurnOf (IsDoneOf k)) (where_holds h f st w)
+  where_holds-such h f g st w =
+      such-then (λ b. Unit {0}) (IsTurnOf (IsDoneOf k)) (h st w) (λ st w b. branch b f loop_left st w) (such-any (h st w)) (λ st w b q. such-branch (IsTurnOf (IsDoneOf k)) b f loop_left st w (g st w) tt)
+
+  behind_body-such : (h : Store → Outside → Run Store Done) (f : Store → Outside → Run Store (Turn Done)) →
+      ((st : Store) (w : Outside) → GivesSuch (IsDoneOf k) (h st w)) →
+      ((st : Store) (w : Outside) → GivesSuch (IsTurnOf (IsDoneOf k)) (f st w)) → (st : Store) (w : Outside) →
+      GivesSuch (IsTurnOf (IsDoneOf k)) (behind_body h f st w)
+  behind_body-such h f p g st w =
+      such-then (IsDoneOf k) (IsTurnOf (IsDoneOf k)) (h st w) (λ st w d. after_body d f st w) (p st w) (λ st w d q. after_body-such d f st w q (g st w))
+
+  again-such : (st : Store) (w : Outside) → GivesSuch (IsTurnOf (IsDoneOf k)) (again st w)
+  again-such st w = tt
 
   in_block-such : (b : Objects) (f : Environment → Store → Outside → Run Store Done) →
       ((env : Environment) (st : Store) (w : Outside) → GivesSuch (IsDoneOf k) (f env st w)) → (env : Environment) (st : Store) (w : Outside) →
@@ -87,9 +97,15 @@ module _ (call : Calls) (k : Option Scalar) where
   in_block-such b f h env st w =
       such-then (IsDoneOf k) (IsDoneOf k) (f (with_objects env (length st) (length b.list)) (with_new_objects b.list st) w) (λ inner w d. Gives (end_regions inner (length st) (length b.list)) w d) (h (with_objects env (length st) (length b.list)) (with_new_objects b.list st) w) (λ inner w d q. q)
 
-  evaluated-such : (o : Option TExpr) (env : Environment) (st : Store) (w : Outside) →
-      GivesSuch (IsTurnOf (IsDoneOf k)) (then_do (evaluated_if_any call o env st w) (λ st w d. again st w))
-  evaluated-such o env st w =
+  switch_body-such : (b : Objects) (f : Environment → Store → Outside → Run Store Done) →
+      ((env : Environment) (st : Store) (w : Outside) → GivesSuch (IsDoneOf k) (f env st w)) → (env : Environment) (st : Store) (w : Outside) →
+      GivesSuch (IsDoneOf k) (switch_body b f env st w)
+  switch_body-such b f h env st w =
+      such-then (IsDoneOf k) (IsDoneOf k) (in_block b f env st w) (λ st w d. Gives st w (after_switch d)) (in_block-such b f h env st w) (λ st w d q. after_switch-such d q)
+
+  next_iteration-such : (o : Option TExpr) (env : Environment) (st : Store) (w : Outside) →
+      GivesSuch (IsTurnOf (IsDoneOf k)) (next_iteration call o env st w)
+  next_iteration-such o env st w =
       such-then (λ d. Unit {0}) (IsTurnOf (IsDoneOf k)) (evaluated_if_any call o env st w) (λ st w d. again st w) (such-any (evaluated_if_any call o env st w)) (λ st w d h. tt)
 
 -- ---- statements
@@ -115,13 +131,13 @@ module _ (call : Calls) where
     statement-kind (s.If' n branches p (more_of-TStmt last end_of-TStmt)) c j m cs h env st w =
         first_holding-kind branches c j m cs h.0 (statement call last env) (λ st w. statement-kind last c j (m + declared_in_branches branches) cs h.1 env st w) env st w
     statement-kind (s.While' e p (more_of-TStmt a end_of-TStmt)) c j m cs h env st w =
-        such-loop (IsDoneOf j.result) (λ st w. while_holds (holds call e env st w) (λ st w. then_do (statement call a env st w) (λ st w d. after_body d again st w))) (λ st w. while_holds-such call j.result (holds call e env st w) (λ st w. then_do (statement call a env st w) (λ st w d. after_body d again st w)) (λ st w. such-then (IsDoneOf j.result) (IsTurnOf (IsDoneOf j.result)) (statement call a env st w) (λ st w d. after_body d again st w) (statement-kind a c (in_loop j) m cs h.1 env st w) (λ st w d q. after_body-such call j.result d again st w q tt))) st w
+        such-loop (IsDoneOf j.result) (where_holds (holds call e env) (behind_body (statement call a env) again)) (where_holds-such call j.result (holds call e env) (behind_body (statement call a env) again) (behind_body-such call j.result (statement call a env) again (λ st w. statement-kind a c (in_loop j) m cs h.1 env st w) (again-such call j.result))) st w
     statement-kind (s.Do' p (more_of-TStmt a end_of-TStmt) e) c j m cs h env st w =
-        such-loop (IsDoneOf j.result) (λ st w. then_do (statement call a env st w) (λ st w d. after_body d (λ st w. while_holds (holds call e env st w) again) st w)) (λ st w. such-then (IsDoneOf j.result) (IsTurnOf (IsDoneOf j.result)) (statement call a env st w) (λ st w d. after_body d (λ st w. while_holds (holds call e env st w) again) st w) (statement-kind a c (in_loop j) m cs h.0 env st w) (λ st w d q. after_body-such call j.result d (λ st w. while_holds (holds call e env st w) again) st w q (while_holds-such call j.result (holds call e env st w) again (λ st w. tt)))) st w
+        such-loop (IsDoneOf j.result) (behind_body (statement call a env) (where_holds (holds call e env) again)) (behind_body-such call j.result (statement call a env) (where_holds (holds call e env) again) (λ st w. statement-kind a c (in_loop j) m cs h.0 env st w) (where_holds-such call j.result (holds call e env) again (again-such call j.result))) st w
     statement-kind (s.For' o e p (more_of-TStmt a end_of-TStmt)) c j m cs h env st w =
-        such-loop (IsDoneOf j.result) (λ st w. while_holds (holds_if_any call o env st w) (λ st w. then_do (statement call a env st w) (λ st w d. after_body d (λ st w. then_do (evaluated_if_any call e env st w) (λ st w d. again st w)) st w))) (λ st w. while_holds-such call j.result (holds_if_any call o env st w) (λ st w. then_do (statement call a env st w) (λ st w d. after_body d (λ st w. then_do (evaluated_if_any call e env st w) (λ st w d. again st w)) st w)) (λ st w. such-then (IsDoneOf j.result) (IsTurnOf (IsDoneOf j.result)) (statement call a env st w) (λ st w d. after_body d (λ st w. then_do (evaluated_if_any call e env st w) (λ st w d. again st w)) st w) (statement-kind a c (in_loop j) m cs h.2 env st w) (λ st w d q. after_body-such call j.result d (λ st w. then_do (evaluated_if_any call e env st w) (λ st w d. again st w)) st w q (evaluated-such call j.result e env st w)))) st w
+        such-loop (IsDoneOf j.result) (where_holds (holds_if_any call o env) (behind_body (statement call a env) (next_iteration call e env))) (where_holds-such call j.result (holds_if_any call o env) (behind_body (statement call a env) (next_iteration call e env)) (behind_body-such call j.result (statement call a env) (next_iteration call e env) (λ st w. statement-kind a c (in_loop j) m cs h.2 env st w) (next_iteration-such call j.result e env))) st w
     statement-kind (s.Switch' e b n parts) c j m cs h env st w =
-        such-then (λ v. Unit {0}) (IsDoneOf j.result) (value call e env st w) (λ st w v. given (number_of v) (λ i. then_do (in_block b (statements_from call parts (first_part i parts)) env st w) (λ st w d. Gives st w (after_switch d)))) (such-any (value call e env st w)) (λ st w v q. such-given (IsDoneOf j.result) (number_of v) (λ i. then_do (in_block b (statements_from call parts (first_part i parts)) env st w) (λ st w d. Gives st w (after_switch d))) (λ i q. such-then (IsDoneOf j.result) (IsDoneOf j.result) (in_block b (statements_from call parts (first_part i parts)) env st w) (λ st w d. Gives st w (after_switch d)) (in_block-such call j.result b (statements_from call parts (first_part i parts)) (λ env st w. statements_from-kind parts (first_part i parts) (with_declared c b.list) (in_switch j) (m + length b.list) cs h.4 env st w) env st w) (λ st w d q. after_switch-such call j.result d q)))
+        such-then (λ v. Unit {0}) (IsDoneOf j.result) (value call e env st w) (λ st w v. given (number_of v) (λ i. switch_body b (statements_from call parts (first_part i parts)) env st w)) (such-any (value call e env st w)) (λ st w v q. such-given (IsDoneOf j.result) (number_of v) (λ i. switch_body b (statements_from call parts (first_part i parts)) env st w) (λ i q. switch_body-such call j.result b (statements_from call parts (first_part i parts)) (λ env st w. statements_from-kind parts (first_part i parts) (with_declared c b.list) (in_switch j) (m + length b.list) cs h.4 env st w) env st w))
     statement-kind s.Break c j m cs h env st w = tt
     statement-kind s.Continue c j m cs h env st w = tt
     statement-kind (s.Return o) c j m cs h env st w = return-such c cs j.result o h env st w
