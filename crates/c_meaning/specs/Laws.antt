@@ -7,3 +7,4 @@ pub mod OperatorKinds
 pub mod ValueKinds
 pub mod CallKinds
 pub mod Equations
+pub mod StatementEquations
