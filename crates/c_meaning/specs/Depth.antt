@@ -1,5 +1,5 @@
 -- What a run does with more depth (a notion of this project).
-use Rattle.std.specs.Prelude.{◌≡◌, ℕ}
+use Rattle.std.specs.Prelude.{◌≡◌}
 use Rattle.word_ops.specs.Run.{Outside, Exit, Deep, More, Run, Gives, Ends, Undefined}
 use Rattle.word_ops.specs.Clock.{RunReaches, IsTimed}
 

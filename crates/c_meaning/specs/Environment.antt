@@ -1,8 +1,8 @@
 -- What the names of a function stand for (C11 6.2.1, 6.2.4).
-use Rattle.std.specs.Prelude.{ℕ, List, ◌++◌, length, Option, slice_get, nat_lt}
+use Rattle.std.specs.Prelude.{ℕ, List, ◌++◌, Option, slice_get, nat_lt}
 use Rattle.std.specs.Option.{option_map}
 use Rattle.word_ops.specs.Choice.{only_if}
-use Rattle.word_ops.specs.Store.{Value, Pointer, Store, in_a_row}
+use Rattle.word_ops.specs.Store.{Value, Pointer, in_a_row}
 
 -- how many static objects there are, whose regions have their numbers, and the regions of the automatic objects in scope, by
 -- their places: the parameters, and the objects of the blocks around, outer blocks first

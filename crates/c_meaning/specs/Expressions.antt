@@ -3,7 +3,7 @@
 use Rattle.std.specs.Prelude.{ℕ, ◌%◌, List, [], ◌∷◌, Option, Some, None}
 use Rattle.word_ops.specs.Store.{Value, Number, Pointer, Store}
 use Rattle.word_ops.specs.Values.{truth}
-use Rattle.word_ops.specs.Run.{Outside, Run, Gives, Ends, Undefined, then_do, given, branch, tick, put_byte, get_byte, exit_with}
+use Rattle.word_ops.specs.Run.{Outside, Run, Gives, then_do, given, branch, tick, put_byte, get_byte, exit_with}
 use Rattle.c_tree.specs.declared.typed.expression.TExpr.{TExpr, Row_of-TExpr, end_of-TExpr, more_of-TExpr, Row_of-Step, end_of-Step, more_of-Step, Row_of-Arm, end_of-Arm, more_of-Arm, Row_of-Target, end_of-Target, more_of-Target}
 use Rattle.c_tree.specs.declared.typed.expression.TExpr.TheVariants as x
 use Rattle.c_tree.specs.declared.typed.expression.Step.TheVariants as step

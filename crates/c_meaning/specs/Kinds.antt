@@ -1,9 +1,9 @@
 -- Values of a kind: what the value of an expression of that kind can be.
 use Rattle.std.specs.Prelude.{◌≡◌, ℕ, true, Option, Some, None}
-use Rattle.word_ops.specs.Store.{Value, Number, Store}
+use Rattle.word_ops.specs.Store.{Value, Number}
 use Rattle.word_ops.specs.Access.{IsInRange}
 use Rattle.word_ops.specs.Values.{is_pointer_or_null}
-use Rattle.word_ops.specs.Run.{Outside, Run, Gives, Ends, Undefined}
+use Rattle.word_ops.specs.Run.{Run, Gives, Ends, Undefined}
 use Rattle.c_tree.specs.declared.typed.operator.Scalar.{Scalar}
 use Rattle.c_tree.specs.declared.typed.operator.Scalar.TheVariants as scalar
 use Rattle.c_tree.specs.TypedKinds.{Kind, Void, Holds, Signature}

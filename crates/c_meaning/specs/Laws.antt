@@ -6,3 +6,5 @@ pub mod Depth
 pub mod OperatorKinds
 pub mod ValueKinds
 pub mod CallKinds
+pub mod Equations
+pub mod StatementEquations

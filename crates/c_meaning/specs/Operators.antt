@@ -29,14 +29,10 @@ use Rattle.c_tree.specs.declared.typed.operator.Primary.{Primary}
 use Rattle.c_tree.specs.declared.typed.operator.Primary.TheVariants as primary
 use Rattle.c_tree.specs.declared.typed.operator.Unary.{Unary}
 use Rattle.c_tree.specs.declared.typed.operator.Unary.TheVariants as unary
+use Rattle.c_tree.specs.TypedKinds.{width_of}
 use Rattle.c_meaning.specs.Environment.{Environment, automatic_place, static_place}
 
 -- ---- objects of scalar type
-
--- how many bytes such an object has, and how they are read
-abbrev pub width_of : Scalar → Width
-width_of (scalar.Integer k) = k
-width_of scalar.Pointer = width.Word
 
 -- the value of the object at an address (C11 6.3.2.1p2): an integer is read from bytes, and a pointer from one whole pointer
 -- or the bytes of the null pointer

@@ -1,11 +1,9 @@
 -- What a statement does (C11 6.8).
-use Rattle.std.specs.Prelude.{ℕ, zero, suc, ◌+◌, Bool, true, false, ◌||◌, ◌==◌, List, [], ◌∷◌, ◌++◌, length, map, Option, Some, None, slice_get, if◌then◌else◌}
-use Rattle.std.specs.Option.{option_map, option_and_then}
-use Rattle.word_ops.specs.Store.{Value, Number, Pointer, Cell, Byte, Region, Store, new_region, unset_cells, end_regions, refill_region}
+use Rattle.std.specs.Prelude.{ℕ, zero, suc, Bool, true, false, ◌||◌, ◌==◌, List, [], ◌∷◌, ◌++◌, length, map, Option, Some, None, slice_get, if◌then◌else◌}
+use Rattle.word_ops.specs.Store.{Value, Pointer, Byte, Region, Store, new_region, unset_cells, end_regions, refill_region}
 use Rattle.word_ops.specs.Access.{put_cells, initialise}
 use Rattle.word_ops.specs.Values.{truth}
-use Rattle.word_ops.specs.Run.{Outside, Run, Gives, Ends, Undefined, then_do, given, branch, Turn, Again, Over, loop}
-use Rattle.c_tree.specs.declared.typed.operator.Scalar.{Scalar}
+use Rattle.word_ops.specs.Run.{Outside, Run, Gives, then_do, given, branch, Turn, Again, Over, loop}
 use Rattle.c_tree.specs.declared.typed.expression.TExpr.{TExpr}
 use Rattle.c_tree.specs.declared.typed.statement.TStmt.{TStmt, Row_of-TStmt, end_of-TStmt, more_of-TStmt, Row_of-Branch, end_of-Branch, more_of-Branch, Row_of-Part, end_of-Part, more_of-Part}
 use Rattle.c_tree.specs.declared.typed.statement.TStmt.TheVariants as s
@@ -17,8 +15,8 @@ use Rattle.c_tree.specs.declared.typed.statement.Initialiser.TheVariants as init
 use Rattle.c_tree.specs.declared.typed.statement.Label.{Label}
 use Rattle.c_tree.specs.declared.typed.statement.Label.TheVariants as label
 use Rattle.c_tree.specs.declared.typed.unit.Object.{Object}
-use Rattle.c_meaning.specs.Environment.{Environment, automatic_place, with_objects}
-use Rattle.c_meaning.specs.Operators.{width_of}
+use Rattle.c_tree.specs.TypedKinds.{width_of}
+use Rattle.c_meaning.specs.Environment.{Environment, with_objects}
 use Rattle.c_meaning.specs.Expressions.{Calls, number_of, value}
 
 -- how a statement is left: at its end, or by a jump (C11 6.8.6)
@@ -100,9 +98,19 @@ again st w = Gives st w Again
 abbrev pub loop_left : Store → Outside → Run Store (Turn Done)
 loop_left st w = Gives st w (Over Normal)
 
--- goes on in a loop where its condition holds
-abbrev pub while_holds : Run Store Bool → (Store → Outside → Run Store (Turn Done)) → Run Store (Turn Done)
-while_holds condition rest = then_do condition (λ st w b. branch b rest loop_left st w)
+-- an iteration that tests its condition and goes on where that holds
+abbrev pub where_holds : (condition : Store → Outside → Run Store Bool) → (rest : Store → Outside → Run Store (Turn Done)) →
+    Store → Outside → Run Store (Turn Done)
+where_holds condition rest st w = then_do (condition st w) (λ st w b. branch b rest loop_left st w)
+
+-- an iteration that runs its body and goes on behind it
+abbrev pub behind_body : (body : Store → Outside → Run Store Done) → (rest : Store → Outside → Run Store (Turn Done)) →
+    Store → Outside → Run Store (Turn Done)
+behind_body body rest st w = then_do (body st w) (λ st w d. after_body d rest st w)
+
+-- what a `for` does behind its body, and then again
+abbrev pub next_iteration : Calls → Option TExpr → Environment → Store → Outside → Run Store (Turn Done)
+next_iteration call e env st w = then_do (evaluated_if_any call e env st w) (λ st w d. again st w)
 
 -- ---- switches (C11 6.8.4.2)
 
@@ -144,6 +152,11 @@ after_switch Breaks = Normal
 after_switch Continues = Continues
 after_switch (Returns v) = Returns v
 
+-- the body of a switch, from a part on
+abbrev pub switch_body : Objects → (Environment → Store → Outside → Run Store Done) → Environment → Store → Outside →
+    Run Store Done
+switch_body b body env st w = then_do (in_block b body env st w) (λ st w d. Gives st w (after_switch d))
+
 -- ---- statements
 
 abbrev mutual
@@ -160,16 +173,16 @@ abbrev mutual
       first_holding call branches (statement call last env) env st w
   -- C11 6.8.5.1
   statement call (s.While' c p (more_of-TStmt a end_of-TStmt)) env st w =
-      loop (λ st w. while_holds (holds call c env st w) (λ st w. then_do (statement call a env st w) (λ st w d. after_body d again st w))) st w
+      loop (where_holds (holds call c env) (behind_body (statement call a env) again)) st w
   -- C11 6.8.5.2
   statement call (s.Do' p (more_of-TStmt a end_of-TStmt) c) env st w =
-      loop (λ st w. then_do (statement call a env st w) (λ st w d. after_body d (λ st w. while_holds (holds call c env st w) again) st w)) st w
+      loop (behind_body (statement call a env) (where_holds (holds call c env) again)) st w
   -- C11 6.8.5.3
   statement call (s.For' c e p (more_of-TStmt a end_of-TStmt)) env st w =
-      loop (λ st w. while_holds (holds_if_any call c env st w) (λ st w. then_do (statement call a env st w) (λ st w d. after_body d (λ st w. then_do (evaluated_if_any call e env st w) (λ st w d. again st w)) st w))) st w
+      loop (where_holds (holds_if_any call c env) (behind_body (statement call a env) (next_iteration call e env))) st w
   -- C11 6.8.4.2
   statement call (s.Switch' e b n parts) env st w =
-      then_do (value call e env st w) (λ st w v. given (number_of v) (λ k. then_do (in_block b (statements_from call parts (first_part k parts)) env st w) (λ st w d. Gives st w (after_switch d))))
+      then_do (value call e env st w) (λ st w v. given (number_of v) (λ k. switch_body b (statements_from call parts (first_part k parts)) env st w))
   -- C11 6.8.6
   statement call s.Break env st w = Gives st w Breaks
   statement call s.Continue env st w = Gives st w Continues

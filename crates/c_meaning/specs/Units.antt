@@ -1,8 +1,8 @@
 -- What functions and a whole unit do (C11 6.9, 5.1.2.2).
-use Rattle.std.specs.Prelude.{ℕ, zero, suc, Bool, true, false, ◌==◌, List, [], ◌∷◌, ◌++◌, length, map, Option, Some, None, slice_get}
+use Rattle.std.specs.Prelude.{ℕ, Bool, true, false, ◌==◌, List, [], ◌∷◌, ◌++◌, length, map, Option, Some, None, slice_get}
 use Rattle.std.specs.Option.{option_and_then}
 use Rattle.word_ops.specs.Choice.{when}
-use Rattle.word_ops.specs.Store.{Value, Number, Pointer, Cell, Byte, Region, Store, new_region, zero_cells, end_regions}
+use Rattle.word_ops.specs.Store.{Value, Number, Pointer, Byte, Region, Store, new_region, zero_cells, end_regions}
 use Rattle.word_ops.specs.Access.{is_kept_by, initialise, pointer_cells, with_cells}
 use Rattle.word_ops.specs.Run.{Outside, Run, Gives, then_do, given, nested, end_of_main}
 use Rattle.word_ops.specs.Outcome.{Outcome, start, outcome_of}
@@ -13,8 +13,8 @@ use Rattle.c_tree.specs.declared.typed.unit.StaticPart.TheVariants as part
 use Rattle.c_tree.specs.declared.typed.unit.StaticObject.{StaticObject}
 use Rattle.c_tree.specs.declared.typed.unit.TFunction.{TFunction}
 use Rattle.c_tree.specs.declared.typed.unit.Typed.{Typed}
-use Rattle.c_meaning.specs.Environment.{Environment, with_objects}
-use Rattle.c_meaning.specs.Operators.{width_of}
+use Rattle.c_tree.specs.TypedKinds.{width_of}
+use Rattle.c_meaning.specs.Environment.{with_objects}
 use Rattle.c_meaning.specs.Expressions.{Invocation, Calls}
 use Rattle.c_meaning.specs.Statements.{Done, Normal, Breaks, Continues, Returns, new_object, statement}
 

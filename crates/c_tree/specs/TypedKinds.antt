@@ -1,6 +1,7 @@
 -- What kind of value a typed expression gives: what hangs together in it, seen without its C types. Typing makes such trees
 -- alone, lowering takes such trees alone, and the value of one is always of its kind (a law of the meaning).
-use Rattle.std.specs.Prelude.{◌≡◌, ℕ, ◌^◌, ◌<◌, List, [], ◌∷◌, length, Option, Some, None, slice_get}
+use Rattle.std.specs.Prelude.{◌≡◌, ℕ, ◌^◌, ◌<◌, ◌≤◌, List, [], ◌∷◌, length, Option, Some, None, slice_get}
+use Rattle.word_ops.specs.declared.operation.Width.{Width}
 use Rattle.word_ops.specs.declared.operation.Width.TheVariants as width
 use Rattle.c_tree.specs.declared.typed.operator.Scalar.{Scalar}
 use Rattle.c_tree.specs.declared.typed.operator.Scalar.TheVariants as scalar
@@ -36,6 +37,11 @@ pub record Names : Type 0 where
   pub functions : List Signature
   pub objects : List (Option Scalar)
 
+-- how many bytes an object of scalar type has, and how they are read
+abbrev pub width_of : Scalar → Width
+width_of (scalar.Integer k) = k
+width_of scalar.Pointer = width.Word
+
 -- an int, or any other integer of four bytes
 abbrev pub word : Kind
 word = Holds (scalar.Integer width.Word)
@@ -62,15 +68,19 @@ Converts (conversion.Integer k) j g = IsInteger j × (g ≡ Holds (scalar.Intege
 Converts conversion.Bool j g = IsScalar j × (g ≡ Holds (scalar.Integer width.U8))
 Converts conversion.Pointer j g = IsPointer j × (g ≡ Holds scalar.Pointer)
 
+-- the size of what a pointer points to (C11 6.5.3.4p2; the profile allows 2^24 bytes)
+abbrev pub IsSize : ℕ → Type 0
+IsSize n = (1 ≤ n) × (n ≤ 2 ^ 24)
+
 -- a binary operator on two kinds gives this one (C11 6.5.5 to 6.5.12)
 abbrev pub ArithmeticGives : Arithmetic → (left right : Kind) → Kind → Type 0
 ArithmeticGives (arithmetic.Word o) i j g = IsInteger i × IsInteger j × (g ≡ word)
 ArithmeticGives (arithmetic.Compare r s) i j g = IsInteger i × IsInteger j × (g ≡ word)
 ArithmeticGives (arithmetic.ComparePointers r) i j g = IsPointer i × IsPointer j × (g ≡ word)
-ArithmeticGives (arithmetic.PointerPlus z) i j g = IsPointer i × IsInteger j × (g ≡ Holds scalar.Pointer)
-ArithmeticGives (arithmetic.PlusPointer z) i j g = IsInteger i × IsPointer j × (g ≡ Holds scalar.Pointer)
-ArithmeticGives (arithmetic.PointerMinus z) i j g = IsPointer i × IsInteger j × (g ≡ Holds scalar.Pointer)
-ArithmeticGives (arithmetic.Difference e) i j g = IsPointer i × IsPointer j × (g ≡ word)
+ArithmeticGives (arithmetic.PointerPlus z) i j g = IsPointer i × IsInteger j × IsSize z.element × (g ≡ Holds scalar.Pointer)
+ArithmeticGives (arithmetic.PlusPointer z) i j g = IsInteger i × IsPointer j × IsSize z.element × (g ≡ Holds scalar.Pointer)
+ArithmeticGives (arithmetic.PointerMinus z) i j g = IsPointer i × IsInteger j × IsSize z.element × (g ≡ Holds scalar.Pointer)
+ArithmeticGives (arithmetic.Difference e) i j g = IsPointer i × IsPointer j × IsSize e × (g ≡ word)
 
 -- an object of this scalar type gets a value from an operand of a kind: what is stored is converted to the object's width
 abbrev pub ChangesBy : Scalar → Conversion → Option Arithmetic → Kind → Type 0
@@ -90,7 +100,7 @@ UnaryGives (unary.Convert c) j g = Converts c j g
 UnaryGives (unary.Negate s) j g = IsInteger j × (g ≡ word)
 UnaryGives unary.Complement j g = IsInteger j × (g ≡ word)
 UnaryGives unary.Not j g = IsScalar j × (g ≡ word)
-UnaryGives (unary.Member n) j g = IsPointer j × (g ≡ Holds scalar.Pointer)
+UnaryGives (unary.Member n) j g = IsPointer j × (n ≤ 2 ^ 24) × (g ≡ Holds scalar.Pointer)
 UnaryGives (unary.Increment i) j g = IsPointer j × Increments i × (g ≡ Holds i.scalar)
 UnaryGives unary.Drop j g = g ≡ Void
 
@@ -120,7 +130,7 @@ abbrev mutual
   IsOfKind c (x.All' t n all) g = AreScalar c all × (g ≡ word)
   IsOfKind c (x.Any' t n all) g = AreScalar c all × (g ≡ word)
   IsOfKind c (x.Choose' t n arms p (more_of-TExpr a end_of-TExpr)) g = ArmsGive c arms g × IsOfKind c a g
-  IsOfKind c (x.Comma' t n all p (more_of-TExpr a end_of-TExpr)) g = AreOfKinds c all × IsOfKind c a g
+  IsOfKind c (x.Comma' t n all p (more_of-TExpr a end_of-TExpr)) g = AreDropped c all × IsOfKind c a g
   IsOfKind c (x.Assign' t n targets p (more_of-TExpr a end_of-TExpr)) g =
       (j : Kind) × IsOfKind c a j × TargetsGive c targets j g
   IsOfKind c (x.Call' t f n all) g =
@@ -145,10 +155,10 @@ abbrev mutual
   AreScalar c end_of-TExpr = Unit {0}
   AreScalar c (more_of-TExpr a rest) = (j : Kind) × IsOfKind c a j × IsScalar j × AreScalar c rest
 
-  -- each expression gives some kind
-  pub AreOfKinds : Names → {n : _} → Row_of-TExpr n → Type 0
-  AreOfKinds c end_of-TExpr = Unit {0}
-  AreOfKinds c (more_of-TExpr a rest) = (j : Kind) × IsOfKind c a j × AreOfKinds c rest
+  -- the value of each expression is dropped
+  pub AreDropped : Names → {n : _} → Row_of-TExpr n → Type 0
+  AreDropped c end_of-TExpr = Unit {0}
+  AreDropped c (more_of-TExpr a rest) = IsOfKind c a Void × AreDropped c rest
 
   -- each expression gives what a parameter holds, and there are as many
   pub AreArguments : Names → {n : _} → Row_of-TExpr n → List (Option Scalar) → Type 0

@@ -1,30 +1,11 @@
 -- Runs that the clock cuts, and calls that the depth cuts.
-use Rattle.std.specs.Prelude.{◌≡◌, ℕ, ◌^◌, ◌-◌, List, ◌∷◌, [], Option, Some, None}
+use Rattle.std.specs.Prelude.{◌≡◌, ◌∷◌, [], Some, None}
 use Rattle.std.proofs.Common.{refl}
-use Rattle.word_ops.specs.declared.operation.Op.TheVariants as op
 use Rattle.word_ops.specs.Run.{Exit, Deep, More}
-use Rattle.word_ops.specs.Outcome.{Outcome}
-use Rattle.c_tree.specs.declared.typed.operator.Given.TheVariants as giving
-use Rattle.c_tree.specs.declared.typed.operator.Arithmetic.TheVariants as arithmetic
-use Rattle.c_tree.specs.declared.typed.operator.Sign.TheVariants as sign
-use Rattle.c_tree.specs.declared.typed.operator.Relation.TheVariants as relation
-use Rattle.c_tree.specs.declared.typed.operator.Unary.TheVariants as unary
-use Rattle.c_tree.specs.declared.typed.operator.Primary.TheVariants as primary
-use Rattle.c_tree.specs.declared.typed.expression.TExpr.{TExpr}
-use Rattle.c_tree.specs.declared.typed.expression.TExpr.TheVariants as x
-use Rattle.c_tree.specs.declared.typed.expression.Step.{Step}
-use Rattle.c_tree.specs.declared.typed.expression.Step.TheVariants as step
-use Rattle.c_tree.specs.declared.typed.expression.Target.TheVariants as target
-use Rattle.c_tree.specs.declared.typed.statement.TStmt.{TStmt}
 use Rattle.c_tree.specs.declared.typed.statement.TStmt.TheVariants as s
-use Rattle.c_tree.specs.declared.typed.statement.Label.TheVariants as label
-use Rattle.c_tree.specs.declared.typed.statement.Initial.TheVariants as initial
-use Rattle.c_tree.specs.declared.typed.unit.StaticPart.TheVariants as part
-use Rattle.c_tree.specs.declared.typed.unit.Object.{Object}
-use Rattle.c_tree.specs.declared.typed.unit.TFunction.{TFunction}
 use Rattle.c_tree.specs.declared.typed.unit.Typed.{Typed}
 use Rattle.c_meaning.specs.Units.{outcome_of_unit}
-use Rattle.c_meaning.specs.Examples.Trees.{computed, plain, int, unsigned, char, signed_char, unsigned_short, bool, void, struct_, pointer_to, array_of, constant, word, byte, signed_byte, half, pointer, object, an_int, an_unsigned, a_pointer, ints, chars, num, uns, null, var_as, var, uvar, pvar, at, static, on, load, to, to_word, to_byte, to_signed_byte, to_half, to_bool, to_pointer, negate, complement, not_, member, by, add, sub, mul, div, compare, compare_unsigned, compare_pointers, less, equal, index, index_unsigned, back, difference, plus, minus, is_less, is_equal, element, set_as, set, set_by, set_pointer, store_as, store, increment, postfix_plus, prefix_plus, all_of, any_of, arm, choose, comma, call, getchar, putchar, dropped, do_, do_call, begin, begin_as, begin_with, int_at, block, nothing, branch, if_, if_else, switch, labels, case, default, return, function, procedure, static_as, literal, unit, unit_with, main_of, ends}
+use Rattle.c_meaning.specs.Examples.Trees.{computed, int, num, on, div, plus, getchar, putchar, do_, nothing, return, unit, ends}
 use Rattle.c_meaning.specs.Examples.Runs.{sum, descent, letters}
 
 -- int main(void){while(1);}

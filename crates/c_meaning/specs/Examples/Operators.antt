@@ -1,8 +1,8 @@
 -- Operators: order of evaluation, conversions, what is assigned and what is given.
-use Rattle.std.specs.Prelude.{◌≡◌, ℕ, ◌^◌, ◌-◌, List, ◌∷◌, [], Option, Some, None}
+use Rattle.std.specs.Prelude.{◌≡◌, ℕ, List, ◌∷◌, [], Option, Some, None}
 use Rattle.std.proofs.Common.{refl}
 use Rattle.word_ops.specs.declared.operation.Op.TheVariants as op
-use Rattle.word_ops.specs.Run.{Exit, Deep, More}
+use Rattle.word_ops.specs.Run.{Exit}
 use Rattle.word_ops.specs.Outcome.{Outcome}
 use Rattle.c_tree.specs.declared.typed.operator.Given.TheVariants as giving
 use Rattle.c_tree.specs.declared.typed.operator.Arithmetic.TheVariants as arithmetic
@@ -10,7 +10,6 @@ use Rattle.c_tree.specs.declared.typed.operator.Sign.TheVariants as sign
 use Rattle.c_tree.specs.declared.typed.operator.Relation.TheVariants as relation
 use Rattle.c_tree.specs.declared.typed.operator.Unary.TheVariants as unary
 use Rattle.c_tree.specs.declared.typed.operator.Primary.TheVariants as primary
-use Rattle.c_tree.specs.declared.typed.types.CType.{CType}
 use Rattle.c_tree.specs.declared.typed.expression.TExpr.{TExpr}
 use Rattle.c_tree.specs.declared.typed.expression.TExpr.TheVariants as x
 use Rattle.c_tree.specs.declared.typed.expression.Step.{Step}
@@ -18,14 +17,9 @@ use Rattle.c_tree.specs.declared.typed.expression.Step.TheVariants as step
 use Rattle.c_tree.specs.declared.typed.expression.Target.TheVariants as target
 use Rattle.c_tree.specs.declared.typed.statement.TStmt.{TStmt}
 use Rattle.c_tree.specs.declared.typed.statement.TStmt.TheVariants as s
-use Rattle.c_tree.specs.declared.typed.statement.Label.TheVariants as label
-use Rattle.c_tree.specs.declared.typed.statement.Initial.TheVariants as initial
-use Rattle.c_tree.specs.declared.typed.unit.StaticPart.TheVariants as part
 use Rattle.c_tree.specs.declared.typed.unit.Object.{Object}
-use Rattle.c_tree.specs.declared.typed.unit.TFunction.{TFunction}
-use Rattle.c_tree.specs.declared.typed.unit.Typed.{Typed}
 use Rattle.c_meaning.specs.Units.{outcome_of_unit}
-use Rattle.c_meaning.specs.Examples.Trees.{computed, plain, int, unsigned, char, signed_char, unsigned_short, bool, void, struct_, pointer_to, array_of, constant, word, byte, signed_byte, half, pointer, object, an_int, an_unsigned, a_pointer, ints, chars, num, uns, null, var_as, var, uvar, pvar, at, static, on, load, to, to_word, to_byte, to_signed_byte, to_half, to_bool, to_pointer, negate, complement, not_, member, by, add, sub, mul, div, compare, compare_unsigned, compare_pointers, less, equal, index, index_unsigned, back, difference, plus, minus, is_less, is_equal, element, set_as, set, set_by, set_pointer, store_as, store, increment, postfix_plus, prefix_plus, all_of, any_of, arm, choose, comma, call, getchar, putchar, dropped, do_, do_call, begin, begin_as, begin_with, int_at, block, nothing, branch, if_, if_else, switch, labels, case, default, return, function, procedure, static_as, literal, unit, unit_with, main_of, ends}
+use Rattle.c_meaning.specs.Examples.Trees.{computed, int, char, signed_char, unsigned_short, bool, void, pointer_to, array_of, word, byte, signed_byte, half, pointer, object, an_int, a_pointer, ints, num, uns, var_as, var, pvar, at, on, load, to, to_word, to_byte, to_signed_byte, to_half, to_bool, to_pointer, negate, complement, not_, by, add, mul, div, compare_unsigned, compare_pointers, less, index, plus, minus, is_equal, element, set_as, set, set_by, postfix_plus, prefix_plus, all_of, any_of, arm, choose, comma, call, getchar, putchar, dropped, do_, do_call, begin, begin_as, begin_with, int_at, group, return, function, procedure, unit, unit_with, main_of, ends}
 
 -- the outcome of a main with these objects, without input
 abbrev outcome : List Object → List TStmt → Option Outcome
@@ -62,7 +56,7 @@ unfolding computed
 designator_first = refl
 
 -- int f(int a,int b){return a-b;}int main(void){int i=7;return f(i++,i);}: arguments from left to right
-pub arguments_in_order : outcome_of_unit (unit_with [] (function (an_int ∷ an_int ∷ []) (return (minus (var 0) (var 1))) ∷ main_of (an_int ∷ []) (begin 0 (num 7) ∷ return (call 0 (postfix_plus 0 ∷ var 0 ∷ [])) ∷ []) ∷ []) 1) [] 10 1000 ≡ ends (Exit 255) [] 1 0
+pub arguments_in_order : outcome_of_unit (unit_with [] (function (an_int ∷ an_int ∷ []) (group (return (minus (var 0) (var 1)) ∷ [])) ∷ main_of (an_int ∷ []) (begin 0 (num 7) ∷ return (call 0 (postfix_plus 0 ∷ var 0 ∷ [])) ∷ []) ∷ []) 1) [] 10 1000 ≡ ends (Exit 255) [] 1 0
 unfolding computed
 arguments_in_order = refl
 
@@ -95,20 +89,22 @@ comma_in_order = refl
 
 -- ---- integers
 
--- int main(void){return -7/2;} and -7%2: toward zero
+-- int main(void){return -7/2;}: toward zero
 pub quotient_toward_zero : outcome [] (return (on int (num 7) (negate ∷ div (num 2) ∷ [])) ∷ []) ≡ ends (Exit 253) [] 0 0
 unfolding computed
 quotient_toward_zero = refl
 
+-- int main(void){return -7%2;}: with the sign of the dividend
 pub remainder_of_dividend : outcome [] (return (on int (num 7) (negate ∷ by op.Rems (num 2) ∷ [])) ∷ []) ≡ ends (Exit 255) [] 0 0
 unfolding computed
 remainder_of_dividend = refl
 
--- int main(void){return -1<1u;} and -1<1
+-- int main(void){return -1<1u;}
 pub unsigned_comparison : outcome [] (return (on int (num 1) (negate ∷ to to_word ∷ compare_unsigned relation.Less (uns 1) ∷ [])) ∷ []) ≡ ends (Exit 0) [] 0 0
 unfolding computed
 unsigned_comparison = refl
 
+-- int main(void){return -1<1;}
 pub signed_comparison : outcome [] (return (on int (num 1) (negate ∷ less (num 1) ∷ [])) ∷ []) ≡ ends (Exit 1) [] 0 0
 unfolding computed
 signed_comparison = refl
@@ -140,24 +136,26 @@ pub chain_passes_on_what_was_stored : outcome (an_int ∷ object char (Some byte
 unfolding computed
 chain_passes_on_what_was_stored = refl
 
--- int main(void){_Bool b=0;b--;return b;} and b=0;b--;b--: -1 is true, and 1-1 is not
+-- what b-- does, as a statement
 abbrev bool_down : TStmt
 bool_down = do_ (x.Primary bool (primary.Increment 0 (record { scalar = byte; operator = arithmetic.Word op.Subs; conversion = to_bool; given = giving.Old })))
 
 abbrev bool_after : List TStmt → Option Outcome
-bool_after ss = outcome (object bool (Some byte) 1 1 ∷ []) (begin_as byte 0 (on bool (num 0) (to to_bool ∷ [])) ∷ block [] ss ∷ return (on int (var_as bool byte 0) (to to_word ∷ [])) ∷ [])
+bool_after ss = outcome (object bool (Some byte) 1 1 ∷ []) (begin_as byte 0 (on bool (num 0) (to to_bool ∷ [])) ∷ group ss ∷ return (on int (var_as bool byte 0) (to to_word ∷ [])) ∷ [])
 
+-- int main(void){_Bool b=0;b--;return b;}: -1 is true
 pub bool_below_0 : bool_after (bool_down ∷ []) ≡ ends (Exit 1) [] 0 0
 unfolding computed
 bool_below_0 = refl
 
+-- int main(void){_Bool b=0;b--;b--;return b;}: and 1-1 is not
 pub bool_below_1 : bool_after (bool_down ∷ bool_down ∷ []) ≡ ends (Exit 0) [] 0 0
 unfolding computed
 bool_below_1 = refl
 
 -- ---- pointers
 
--- int main(void){int a[3]={3,4,5};int*p=a;return *p++*10+*p;}
+-- int a[3]={3,4,5};int*p=a; in front
 abbrev three : List TStmt → List TStmt
 three ss = begin_with 0 (int_at 0 3 ∷ int_at 4 4 ∷ int_at 8 5 ∷ []) ∷ begin_as pointer 1 (at (array_of 3 int) 0) ∷ ss
 
@@ -167,29 +165,31 @@ with_three ss = outcome (ints 3 ∷ a_pointer ∷ []) (three ss)
 abbrev pointer_up : TExpr
 pointer_up = x.Primary (pointer_to int) (primary.Increment 1 (record { scalar = pointer; operator = arithmetic.PointerPlus (record { element = 4; sign = sign.Signed }); conversion = to_pointer; given = giving.Old }))
 
+-- int main(void){int a[3]={3,4,5};int*p=a;return *p++*10+*p;}
 pub pointer_moves_on : with_three (return (on int pointer_up (load word ∷ mul (num 10) ∷ add (on int (pvar 1) (load word ∷ [])) ∷ [])) ∷ []) ≡ ends (Exit 34) [] 0 0
 unfolding computed
 pointer_moves_on = refl
 
--- p+=2;p-=1;return *p;
+-- int main(void){int a[3]={3,4,5};int*p=a;p+=2;p-=1;return *p;}
 pub pointer_assigned : with_three (do_ (set_as (pointer_to int) pointer (Some (arithmetic.PointerPlus (record { element = 4; sign = sign.Signed }))) to_pointer 1 (num 2)) ∷ do_ (set_as (pointer_to int) pointer (Some (arithmetic.PointerMinus (record { element = 4; sign = sign.Signed }))) to_pointer 1 (num 1)) ∷ return (on int (pvar 1) (load word ∷ [])) ∷ []) ≡ ends (Exit 4) [] 0 0
 unfolding computed
 pointer_assigned = refl
 
--- return 2[a]; and return *(1+p);
+-- int main(void){int a[3]={3,4,5};int*p=a;return 2[a];}
 pub index_in_front : with_three (return (on int (num 2) (step.Binary (arithmetic.PlusPointer (record { element = 4; sign = sign.Signed })) (at (array_of 3 int) 0) ∷ load word ∷ [])) ∷ []) ≡ ends (Exit 5) [] 0 0
 unfolding computed
 index_in_front = refl
 
--- (*p)++;++*p;return a[0]*10+(*p)--;
+-- ++ or -- of what a pointer leads to
 abbrev at_place : op.the_data → giving.the_data → Step
 at_place o g = step.Unary (unary.Increment (record { scalar = word; operator = arithmetic.Word o; conversion = to_word; given = g }))
 
+-- int main(void){int a[3]={3,4,5};int*p=a;(*p)++;++*p;return a[0]*10+(*p)--;}
 pub object_moves_on : with_three (do_ (on int (pvar 1) (at_place op.Adds giving.Old ∷ [])) ∷ do_ (on int (pvar 1) (at_place op.Adds giving.New ∷ [])) ∷ return (on int (element (at (array_of 3 int) 0) (num 0)) (mul (num 10) ∷ add (on int (pvar 1) (at_place op.Subs giving.Old ∷ [])) ∷ [])) ∷ []) ≡ ends (Exit 55) [] 0 0
 unfolding computed
 object_moves_on = refl
 
--- return &a[2]!=p; and return p==a;
+-- int main(void){int a[3]={3,4,5};int*p=a;return (&a[2]!=p)+(p==a);}
 pub same_place : with_three (return (on int (at (array_of 3 int) 0) (index 4 (num 2) ∷ compare_pointers relation.NotEqual (pvar 1) ∷ add (on int (pvar 1) (compare_pointers relation.Equal (at (array_of 3 int) 0) ∷ [])) ∷ [])) ∷ []) ≡ ends (Exit 2) [] 0 0
 unfolding computed
 same_place = refl
@@ -197,7 +197,7 @@ same_place = refl
 -- ---- the library
 
 -- void f(void){exit(259);}int main(void){f();return 1;}
-pub exit_in_a_call : outcome_of_unit (unit_with [] (procedure [] (s.Evaluate (x.Exit void (num 259))) ∷ main_of [] (do_call 0 [] ∷ return (num 1) ∷ []) ∷ []) 1) [] 10 1000 ≡ ends (Exit 3) [] 1 0
+pub exit_in_a_call : outcome_of_unit (unit_with [] (procedure [] (group (s.Evaluate (x.Exit void (num 259)) ∷ [])) ∷ main_of [] (do_call 0 [] ∷ return (num 1) ∷ []) ∷ []) 1) [] 10 1000 ≡ ends (Exit 3) [] 1 0
 unfolding computed
 exit_in_a_call = refl
 

@@ -1,19 +1,18 @@
 -- Whole programs. Ticks: one before each iteration of a loop but its first, one before each call, one after each putchar and
 -- getchar.
-use Rattle.std.specs.Prelude.{◌≡◌, ℕ, ◌^◌, ◌-◌, List, ◌∷◌, [], Some, None}
+use Rattle.std.specs.Prelude.{◌≡◌, ℕ, ◌∷◌, [], Some, None}
 use Rattle.std.proofs.Common.{refl}
 use Rattle.word_ops.specs.declared.operation.Op.TheVariants as op
-use Rattle.word_ops.specs.Run.{Exit, Deep, More}
+use Rattle.word_ops.specs.Run.{Exit, Deep}
 use Rattle.c_tree.specs.declared.typed.operator.Given.TheVariants as giving
 use Rattle.c_tree.specs.declared.typed.operator.Relation.TheVariants as relation
 use Rattle.c_tree.specs.declared.typed.expression.TExpr.{TExpr}
 use Rattle.c_tree.specs.declared.typed.statement.TStmt.{TStmt}
 use Rattle.c_tree.specs.declared.typed.statement.TStmt.TheVariants as s
-use Rattle.c_tree.specs.declared.typed.unit.Object.{Object}
 use Rattle.c_tree.specs.declared.typed.unit.TFunction.{TFunction}
 use Rattle.c_tree.specs.declared.typed.unit.Typed.{Typed}
 use Rattle.c_meaning.specs.Units.{outcome_of_unit}
-use Rattle.c_meaning.specs.Examples.Trees.{computed, int, unsigned, signed_char, char, bool, struct_, pointer_to, word, byte, signed_byte, pointer, object, an_int, an_unsigned, ints, num, uns, null, var, uvar, pvar, var_as, at, static, on, load, to, to_word, to_byte, to_signed_byte, to_bool, negate, not_, member, by, add, sub, div, mul, compare, compare_unsigned, compare_pointers, less, index, plus, minus, is_less, is_equal, set, set_as, store, postfix_plus, prefix_plus, increment, call, getchar, putchar, do_, do_call, begin, begin_as, block, nothing, if_, if_else, branch, any_of, switch, case, default, return, function, procedure, static_as, unit, unit_with, main_of, ends}
+use Rattle.c_meaning.specs.Examples.Trees.{computed, int, unsigned, signed_char, char, bool, struct_, pointer_to, word, byte, signed_byte, pointer, object, an_int, an_unsigned, ints, num, uns, var, uvar, pvar, var_as, at, static, on, load, to, to_word, to_byte, to_signed_byte, to_bool, negate, not_, member, by, sub, mul, compare, compare_unsigned, compare_pointers, less, index, plus, minus, is_less, is_equal, set, set_as, store, postfix_plus, increment, getchar, putchar, dropped, do_, do_call, begin, begin_as, group, nothing, if_, branch, any_of, switch, case, default, return, procedure, static_as, unit, unit_with, main_of, ends}
 
 -- int main(void){return 0;}
 pub returns_0 : outcome_of_unit (unit [] (return (num 0) ∷ [])) [] 1 0 ≡ ends (Exit 0) [] 0 0
@@ -41,8 +40,11 @@ unfolding computed
 returns_end_of_input = refl
 
 -- int main(void){int s=0;int i;for(i=0;i<10;i++)s=s+i;return s;}
+abbrev pub sum_main : TFunction
+sum_main = main_of (an_int ∷ an_int ∷ []) (begin 0 (num 0) ∷ do_ (set 1 (num 0)) ∷ s.For (Some (is_less (var 1) (num 10))) (Some (dropped (postfix_plus 1))) (do_ (set 0 (plus (var 0) (var 1)))) ∷ return (var 0) ∷ [])
+
 abbrev pub sum : Typed
-sum = unit (an_int ∷ an_int ∷ []) (begin 0 (num 0) ∷ do_ (set 1 (num 0)) ∷ s.For (Some (is_less (var 1) (num 10))) (Some (postfix_plus 1)) (do_ (set 0 (plus (var 0) (var 1)))) ∷ return (var 0) ∷ [])
+sum = unit_with [] (sum_main ∷ []) 0
 
 pub sum_is_45 : outcome_of_unit sum [] 1 1000 ≡ ends (Exit 45) [] 10 0
 unfolding computed
@@ -50,7 +52,7 @@ sum_is_45 = refl
 
 -- int main(void){int a=1,b=2,t,n=getchar()-'0';while(n>0){t=a;a=b;b=t;n=n-1;}return a;}
 abbrev pub swap : Typed
-swap = unit (an_int ∷ an_int ∷ an_int ∷ an_int ∷ []) (begin 0 (num 1) ∷ begin 1 (num 2) ∷ begin 3 (minus getchar (num 48)) ∷ s.While (on int (var 3) (compare relation.Greater (num 0) ∷ [])) (block [] (do_ (set 2 (var 0)) ∷ do_ (set 0 (var 1)) ∷ do_ (set 1 (var 2)) ∷ do_ (set 3 (minus (var 3) (num 1))) ∷ [])) ∷ return (var 0) ∷ [])
+swap = unit (an_int ∷ an_int ∷ an_int ∷ an_int ∷ []) (begin 0 (num 1) ∷ begin 1 (num 2) ∷ begin 3 (minus getchar (num 48)) ∷ s.While (on int (var 3) (compare relation.Greater (num 0) ∷ [])) (group (do_ (set 2 (var 0)) ∷ do_ (set 0 (var 1)) ∷ do_ (set 1 (var 2)) ∷ do_ (set 3 (minus (var 3) (num 1))) ∷ [])) ∷ return (var 0) ∷ [])
 
 pub swapped_three_times : outcome_of_unit swap (51 ∷ []) 1 1000 ≡ ends (Exit 2) [] 4 1
 unfolding computed
@@ -62,7 +64,7 @@ swapped_four_times = refl
 
 -- int main(void){int i;for(i=0;i<4;i++)switch(i){case 1:putchar('a');case 2:putchar('b');break;default:putchar('d');}return 0;}
 abbrev pub letters : Typed
-letters = unit (an_int ∷ []) (do_ (set 0 (num 0)) ∷ s.For (Some (is_less (var 0) (num 4))) (Some (postfix_plus 0)) (switch (var 0) (case 1 (do_ (putchar (num 97)) ∷ []) ∷ case 2 (do_ (putchar (num 98)) ∷ s.Break ∷ []) ∷ default (do_ (putchar (num 100)) ∷ []) ∷ [])) ∷ return (num 0) ∷ [])
+letters = unit (an_int ∷ []) (do_ (set 0 (num 0)) ∷ s.For (Some (is_less (var 0) (num 4))) (Some (dropped (postfix_plus 0))) (switch (var 0) (case 1 (do_ (putchar (num 97)) ∷ []) ∷ case 2 (do_ (putchar (num 98)) ∷ s.Break ∷ []) ∷ default (do_ (putchar (num 100)) ∷ []) ∷ [])) ∷ return (num 0) ∷ [])
 
 pub puts_dabbd : outcome_of_unit letters [] 1 1000 ≡ ends (Exit 0) (100 ∷ 97 ∷ 98 ∷ 98 ∷ 100 ∷ []) 9 0
 unfolding computed
@@ -87,8 +89,9 @@ twice_a_byte_is_even = refl
 
 -- static void num(unsigned n){if(n>9u)num(n/10u);putchar('0'+n%10u);}
 abbrev pub number_put : TFunction
-number_put = procedure (an_unsigned ∷ []) (block [] (if_ (on int (uvar 0) (compare_unsigned relation.Greater (uns 9) ∷ [])) (do_call 0 (on unsigned (uvar 0) (by op.Divu (uns 10) ∷ []) ∷ [])) ∷ do_ (putchar (on int (num 48) (to to_word ∷ by op.Add (on unsigned (uvar 0) (by op.Remu (uns 10) ∷ [])) ∷ to to_word ∷ []))) ∷ []))
+number_put = procedure (an_unsigned ∷ []) (group (if_ (on int (uvar 0) (compare_unsigned relation.Greater (uns 9) ∷ [])) (do_call 0 (on unsigned (uvar 0) (by op.Divu (uns 10) ∷ []) ∷ [])) ∷ do_ (putchar (on int (num 48) (to to_word ∷ by op.Add (on unsigned (uvar 0) (by op.Remu (uns 10) ∷ [])) ∷ to to_word ∷ []))) ∷ []))
 
+-- static void num(unsigned n){if(n>9u)num(n/10u);putchar('0'+n%10u);}
 -- int main(void){unsigned a=0xFFFFFFFF;num(a+1);putchar(' ');num(0u-1);return 0;}
 abbrev pub unsigned_wraps : Typed
 unsigned_wraps = unit_with [] (number_put ∷ main_of (an_unsigned ∷ []) (begin 0 (uns 0xFFFFFFFF) ∷ do_call 0 (on unsigned (uvar 0) (by op.Add (on unsigned (num 1) (to to_word ∷ [])) ∷ []) ∷ []) ∷ do_ (putchar (num 32)) ∷ do_call 0 (on unsigned (uns 0) (by op.Sub (on unsigned (num 1) (to to_word ∷ [])) ∷ []) ∷ []) ∷ return (num 0) ∷ []) ∷ []) 1
@@ -99,7 +102,7 @@ puts_0_4294967295 = refl
 
 -- void f(int n){if(n)f(n-1);}
 abbrev pub descends : TFunction
-descends = procedure (an_int ∷ []) (block [] (if_ (var 0) (do_call 0 (minus (var 0) (num 1) ∷ [])) ∷ []))
+descends = procedure (an_int ∷ []) (group (if_ (var 0) (do_call 0 (minus (var 0) (num 1) ∷ [])) ∷ []))
 
 -- int main(void){f(N);return 0;}
 abbrev pub descent : ℕ → Typed
@@ -148,19 +151,20 @@ pub bool_is_1 : outcome_of_unit (unit (object bool (Some byte) 1 1 ∷ []) (begi
 unfolding computed
 bool_is_1 = refl
 
--- static void num(unsigned n){..} as above, and
--- int main(void){unsigned lines=0,words=0,bytes=0;_Bool in=0;int c,last='\n';
---   while((c=getchar())!=-1){bytes++;if(c=='\n')lines++;
---     if(c==' '||c=='\n'||c=='\t')in=0;else if(!in){in=1;words++;}last=c;}
---   if(last!='\n')lines++;num(lines);putchar(' ');num(words);putchar(' ');num(bytes);putchar('\n');return 0;}
+-- the statement n++ and the test c=='b' of the word count
 abbrev counted : ℕ → TStmt
 counted i = do_ (increment op.Add giving.Old i)
 
 abbrev is_byte : ℕ → TExpr
 is_byte b = is_equal (var 4) (num b)
 
+-- static void num(unsigned n){if(n>9u)num(n/10u);putchar('0'+n%10u);}
+-- int main(void){unsigned lines=0,words=0,bytes=0;_Bool in=0;int c,last='\n';
+--   while((c=getchar())!=-1){bytes++;if(c=='\n')lines++;
+--     if(c==' '||c=='\n'||c=='\t')in=0;else if(!in){in=1;words++;}last=c;}
+--   if(last!='\n')lines++;num(lines);putchar(' ');num(words);putchar(' ');num(bytes);putchar('\n');return 0;}
 abbrev pub word_count : Typed
-word_count = unit_with [] (number_put ∷ main_of (an_unsigned ∷ an_unsigned ∷ an_unsigned ∷ object bool (Some byte) 1 1 ∷ an_int ∷ an_int ∷ []) (begin 0 (on unsigned (num 0) (to to_word ∷ [])) ∷ begin 1 (on unsigned (num 0) (to to_word ∷ [])) ∷ begin 2 (on unsigned (num 0) (to to_word ∷ [])) ∷ begin_as byte 3 (on bool (num 0) (to to_bool ∷ [])) ∷ begin 5 (num 10) ∷ s.While (on int (set 4 getchar) (compare relation.NotEqual (on int (num 1) (negate ∷ [])) ∷ [])) (block [] (counted 2 ∷ if_ (is_byte 10) (counted 0) ∷ s.If (branch (any_of (is_byte 32 ∷ is_byte 10 ∷ is_byte 9 ∷ [])) (do_ (set_as bool byte None to_bool 3 (num 0))) ∷ branch (on int (var_as bool byte 3) (not_ ∷ [])) (block [] (do_ (set_as bool byte None to_bool 3 (num 1)) ∷ counted 1 ∷ [])) ∷ []) nothing ∷ do_ (set 5 (var 4)) ∷ [])) ∷ if_ (on int (var 5) (compare relation.NotEqual (num 10) ∷ [])) (counted 0) ∷ do_call 0 (uvar 0 ∷ []) ∷ do_ (putchar (num 32)) ∷ do_call 0 (uvar 1 ∷ []) ∷ do_ (putchar (num 32)) ∷ do_call 0 (uvar 2 ∷ []) ∷ do_ (putchar (num 10)) ∷ return (num 0) ∷ []) ∷ []) 1
+word_count = unit_with [] (number_put ∷ main_of (an_unsigned ∷ an_unsigned ∷ an_unsigned ∷ object bool (Some byte) 1 1 ∷ an_int ∷ an_int ∷ []) (begin 0 (on unsigned (num 0) (to to_word ∷ [])) ∷ begin 1 (on unsigned (num 0) (to to_word ∷ [])) ∷ begin 2 (on unsigned (num 0) (to to_word ∷ [])) ∷ begin_as byte 3 (on bool (num 0) (to to_bool ∷ [])) ∷ begin 5 (num 10) ∷ s.While (on int (set 4 getchar) (compare relation.NotEqual (on int (num 1) (negate ∷ [])) ∷ [])) (group (counted 2 ∷ if_ (is_byte 10) (counted 0) ∷ s.If (branch (any_of (is_byte 32 ∷ is_byte 10 ∷ is_byte 9 ∷ [])) (do_ (set_as bool byte None to_bool 3 (num 0))) ∷ branch (on int (var_as bool byte 3) (not_ ∷ [])) (group (do_ (set_as bool byte None to_bool 3 (num 1)) ∷ counted 1 ∷ [])) ∷ []) nothing ∷ do_ (set 5 (var 4)) ∷ [])) ∷ if_ (on int (var 5) (compare relation.NotEqual (num 10) ∷ [])) (counted 0) ∷ do_call 0 (uvar 0 ∷ []) ∷ do_ (putchar (num 32)) ∷ do_call 0 (uvar 1 ∷ []) ∷ do_ (putchar (num 32)) ∷ do_call 0 (uvar 2 ∷ []) ∷ do_ (putchar (num 10)) ∷ return (num 0) ∷ []) ∷ []) 1
 
 -- of "to be or", a newline and "not": "2 4 12" and a newline. Ticks: 13 for getchar, 12 for the loop, 7 for putchar, 4 for calls
 pub counts_2_4_12 : outcome_of_unit word_count (116 ∷ 111 ∷ 32 ∷ 98 ∷ 101 ∷ 32 ∷ 111 ∷ 114 ∷ 10 ∷ 110 ∷ 111 ∷ 116 ∷ []) 200 1000 ≡ ends (Exit 0) (50 ∷ 32 ∷ 52 ∷ 32 ∷ 49 ∷ 50 ∷ 10 ∷ []) 36 12

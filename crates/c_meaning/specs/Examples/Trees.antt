@@ -1,9 +1,9 @@
 -- Words for typed trees, so that the examples read like C.
-use Rattle.std.specs.Prelude.{ℕ, ◌*◌, Bool, true, false, List, [], ◌∷◌, ◌++◌, Option, Some, None}
+use Rattle.std.specs.Prelude.{ℕ, ◌*◌, true, false, List, [], ◌∷◌, ◌++◌, Option, Some, None}
 use Rattle.word_ops.specs.declared.operation.Op.{Op}
 use Rattle.word_ops.specs.declared.operation.Op.TheVariants as op
 use Rattle.word_ops.specs.declared.operation.Width.TheVariants as width
-use Rattle.word_ops.specs.Run.{End, Exit, Deep, More}
+use Rattle.word_ops.specs.Run.{End}
 use Rattle.word_ops.specs.Outcome.{Outcome}
 use Rattle.c_tree.specs.declared.typed.types.Base.{Base}
 use Rattle.c_tree.specs.declared.typed.types.Base.TheVariants as base
@@ -334,11 +334,15 @@ begin_with i is = s.Initialise i (initialiser.Aggregate is)
 abbrev pub int_at : ℕ → ℕ → Initial
 int_at n a = initial.Value n word (num a)
 
-abbrev pub block : List Object → List TStmt → TStmt
-block os ss = s.Block (record { first = 0; list = os }) ss
+-- a block behind so many objects of its function, with objects and without
+abbrev pub block : ℕ → List Object → List TStmt → TStmt
+block n os ss = s.Block (record { first = n; list = os }) ss
+
+abbrev pub group : List TStmt → TStmt
+group ss = block 0 [] ss
 
 abbrev pub nothing : TStmt
-nothing = block [] []
+nothing = group []
 
 abbrev pub branch : TExpr → TStmt → Branch
 branch c a = record { condition = c; body = a }
@@ -381,13 +385,13 @@ literal n bytes = static_as (object (constant (array_of n char)) None n 1) (part
 
 -- a unit of main alone, and one of main behind other functions
 abbrev pub unit : List Object → List TStmt → Typed
-unit os ss = record { objects = []; functions = function [] (block os ss) ∷ []; main = 0 }
+unit os ss = record { objects = []; functions = function [] (block 0 os ss) ∷ []; main = 0 }
 
 abbrev pub unit_with : List StaticObject → List TFunction → (main : ℕ) → Typed
 unit_with os fs m = record { objects = os; functions = fs; main = m }
 
 abbrev pub main_of : List Object → List TStmt → TFunction
-main_of os ss = function [] (block os ss)
+main_of os ss = function [] (block 0 os ss)
 
 -- ---- outcomes
 

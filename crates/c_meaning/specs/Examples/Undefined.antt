@@ -3,30 +3,16 @@
 use Rattle.std.specs.Prelude.{◌≡◌, ℕ, ◌^◌, ◌-◌, List, ◌∷◌, [], Option, Some, None}
 use Rattle.std.proofs.Common.{refl}
 use Rattle.word_ops.specs.declared.operation.Op.TheVariants as op
-use Rattle.word_ops.specs.Run.{Exit, Deep, More}
+use Rattle.word_ops.specs.Run.{Exit}
 use Rattle.word_ops.specs.Outcome.{Outcome}
-use Rattle.c_tree.specs.declared.typed.operator.Given.TheVariants as giving
-use Rattle.c_tree.specs.declared.typed.operator.Arithmetic.TheVariants as arithmetic
-use Rattle.c_tree.specs.declared.typed.operator.Sign.TheVariants as sign
 use Rattle.c_tree.specs.declared.typed.operator.Relation.TheVariants as relation
-use Rattle.c_tree.specs.declared.typed.operator.Unary.TheVariants as unary
-use Rattle.c_tree.specs.declared.typed.operator.Primary.TheVariants as primary
 use Rattle.c_tree.specs.declared.typed.types.CType.{CType}
 use Rattle.c_tree.specs.declared.typed.expression.TExpr.{TExpr}
 use Rattle.c_tree.specs.declared.typed.expression.TExpr.TheVariants as x
-use Rattle.c_tree.specs.declared.typed.expression.Step.{Step}
-use Rattle.c_tree.specs.declared.typed.expression.Step.TheVariants as step
-use Rattle.c_tree.specs.declared.typed.expression.Target.TheVariants as target
 use Rattle.c_tree.specs.declared.typed.statement.TStmt.{TStmt}
-use Rattle.c_tree.specs.declared.typed.statement.TStmt.TheVariants as s
-use Rattle.c_tree.specs.declared.typed.statement.Label.TheVariants as label
-use Rattle.c_tree.specs.declared.typed.statement.Initial.TheVariants as initial
-use Rattle.c_tree.specs.declared.typed.unit.StaticPart.TheVariants as part
 use Rattle.c_tree.specs.declared.typed.unit.Object.{Object}
-use Rattle.c_tree.specs.declared.typed.unit.TFunction.{TFunction}
-use Rattle.c_tree.specs.declared.typed.unit.Typed.{Typed}
 use Rattle.c_meaning.specs.Units.{outcome_of_unit}
-use Rattle.c_meaning.specs.Examples.Trees.{computed, plain, int, unsigned, char, signed_char, unsigned_short, bool, void, struct_, pointer_to, array_of, constant, word, byte, signed_byte, half, pointer, object, an_int, an_unsigned, a_pointer, ints, chars, num, uns, null, var_as, var, uvar, pvar, at, static, on, load, to, to_word, to_byte, to_signed_byte, to_half, to_bool, to_pointer, negate, complement, not_, member, by, add, sub, mul, div, compare, compare_unsigned, compare_pointers, less, equal, index, index_unsigned, back, difference, plus, minus, is_less, is_equal, element, set_as, set, set_by, set_pointer, store_as, store, increment, postfix_plus, prefix_plus, all_of, any_of, arm, choose, comma, call, getchar, putchar, dropped, do_, do_call, begin, begin_as, begin_with, int_at, block, nothing, branch, if_, if_else, switch, labels, case, default, return, function, procedure, static_as, literal, unit, unit_with, main_of, ends}
+use Rattle.c_meaning.specs.Examples.Trees.{computed, int, char, void, struct_, pointer_to, array_of, constant, word, byte, pointer, object, an_int, a_pointer, ints, chars, num, uns, null, var, pvar, at, static, on, load, to, to_word, to_byte, to_bool, to_pointer, negate, not_, member, by, sub, compare_pointers, equal, index, index_unsigned, back, difference, plus, element, set_pointer, store_as, store, comma, call, do_, do_call, begin, begin_as, begin_with, int_at, block, group, nothing, if_, return, function, static_as, literal, unit, unit_with, main_of, ends}
 
 -- the outcome of a main with these objects, without input
 abbrev outcome : List Object → List TStmt → Option Outcome
@@ -101,12 +87,12 @@ unfolding computed
 through_pointer = refl
 
 -- int main(void){int*p;{int x=6;p=&x;}return *p;}
-pub after_lifetime : outcome (a_pointer ∷ []) (block (an_int ∷ []) (begin 1 (num 6) ∷ do_ (set_pointer 0 (at (pointer_to int) 1)) ∷ []) ∷ return (on int (pvar 0) (load word ∷ [])) ∷ []) ≡ None
+pub after_lifetime : outcome (a_pointer ∷ []) (block 1 (an_int ∷ []) (begin 1 (num 6) ∷ do_ (set_pointer 0 (at (pointer_to int) 1)) ∷ []) ∷ return (on int (pvar 0) (load word ∷ [])) ∷ []) ≡ None
 unfolding computed
 after_lifetime = refl
 
 -- int main(void){int*p;{int x=6;p=&x;return *p;}}
-pub within_lifetime : outcome (a_pointer ∷ []) (block (an_int ∷ []) (begin 1 (num 6) ∷ do_ (set_pointer 0 (at (pointer_to int) 1)) ∷ return (on int (pvar 0) (load word ∷ [])) ∷ []) ∷ []) ≡ ends (Exit 6) [] 0 0
+pub within_lifetime : outcome (a_pointer ∷ []) (block 1 (an_int ∷ []) (begin 1 (num 6) ∷ do_ (set_pointer 0 (at (pointer_to int) 1)) ∷ return (on int (pvar 0) (load word ∷ [])) ∷ []) ∷ []) ≡ ends (Exit 6) [] 0 0
 unfolding computed
 within_lifetime = refl
 
@@ -303,10 +289,10 @@ null_plus_zero = refl
 
 -- int main(void){int*p;{int x=6;p=&x;}return E;} and int main(void){int*p;{int x=6;p=&x;return E;}}
 abbrev behind_block : TExpr → Option Outcome
-behind_block e = outcome (a_pointer ∷ []) (block (an_int ∷ []) (begin 1 (num 6) ∷ do_ (set_pointer 0 (at (pointer_to int) 1)) ∷ []) ∷ return e ∷ [])
+behind_block e = outcome (a_pointer ∷ []) (block 1 (an_int ∷ []) (begin 1 (num 6) ∷ do_ (set_pointer 0 (at (pointer_to int) 1)) ∷ []) ∷ return e ∷ [])
 
 abbrev in_the_block : TExpr → Option Outcome
-in_the_block e = outcome (a_pointer ∷ []) (block (an_int ∷ []) (begin 1 (num 6) ∷ do_ (set_pointer 0 (at (pointer_to int) 1)) ∷ return e ∷ []) ∷ [])
+in_the_block e = outcome (a_pointer ∷ []) (block 1 (an_int ∷ []) (begin 1 (num 6) ∷ do_ (set_pointer 0 (at (pointer_to int) 1)) ∷ return e ∷ []) ∷ [])
 
 -- p+1!=0
 abbrev moved : TExpr
@@ -375,7 +361,7 @@ unfolding computed
 live_pointer_to_bool = refl
 
 -- int main(void){int*p,*q;{int x=6;p=&x;}q=p;return 8;}: a dead pointer is copied
-pub dead_pointer_is_copied : outcome (a_pointer ∷ a_pointer ∷ []) (block (an_int ∷ []) (begin 2 (num 6) ∷ do_ (set_pointer 0 (at (pointer_to int) 2)) ∷ []) ∷ do_ (set_pointer 1 (pvar 0)) ∷ return (num 8) ∷ []) ≡ ends (Exit 8) [] 0 0
+pub dead_pointer_is_copied : outcome (a_pointer ∷ a_pointer ∷ []) (block 2 (an_int ∷ []) (begin 2 (num 6) ∷ do_ (set_pointer 0 (at (pointer_to int) 2)) ∷ []) ∷ do_ (set_pointer 1 (pvar 0)) ∷ return (num 8) ∷ []) ≡ ends (Exit 8) [] 0 0
 unfolding computed
 dead_pointer_is_copied = refl
 
@@ -466,6 +452,6 @@ missing_value_in_comma = refl
 abbrev once : TExpr
 once = static int 0
 
-pub main_calls_main : outcome_of_unit (unit_with (static_as an_int [] ∷ []) (main_of [] (if_ (on int once (load word ∷ not_ ∷ [])) (block [] (do_ (store once (num 1)) ∷ return (plus (call 0 []) (num 2)) ∷ [])) ∷ []) ∷ []) 0) [] 10 1000 ≡ ends (Exit 2) [] 1 0
+pub main_calls_main : outcome_of_unit (unit_with (static_as an_int [] ∷ []) (main_of [] (if_ (on int once (load word ∷ not_ ∷ [])) (group (do_ (store once (num 1)) ∷ return (plus (call 0 []) (num 2)) ∷ [])) ∷ []) ∷ []) 0) [] 10 1000 ≡ ends (Exit 2) [] 1 0
 unfolding computed
 main_calls_main = refl

@@ -1,13 +1,12 @@
 -- What a statement returns, and what a call gives, is what the function's type has.
-use Rattle.std.proofs.Common.{◌≡◌, refl, sym, ap, ◌∙◌, subst, ℕ, zero, suc, List, [], ◌∷◌, length, arith, ⊎_elim}
+use Rattle.std.proofs.Common.{◌≡◌, refl, sym, subst, ℕ, zero, suc, List, [], ◌∷◌, length, arith, ⊎_elim}
 use Rattle.std.proofs.lemmas.Bool.Decides.{eqb_tells}
-use Rattle.std.specs.Prelude.{◌==◌, map, Bool, true, false, Option, Some, None, slice_get}
+use Rattle.std.specs.Prelude.{◌+◌, ◌==◌, map, Bool, true, false, Option, Some, None, slice_get}
 use Rattle.std.specs.Option.{option_map}
 use Rattle.word_ops.specs.declared.operation.Width.TheVariants as width
-use Rattle.word_ops.specs.Store.{Value, Number, Pointer, Byte, Store, end_regions, refill_region}
+use Rattle.word_ops.specs.Store.{Number, Pointer, Byte, Store, end_regions, refill_region}
 use Rattle.word_ops.specs.Access.{put_cells, initialise}
-use Rattle.word_ops.specs.Values.{truth}
-use Rattle.word_ops.specs.Run.{Outside, Run, Gives, then_do, given, branch, Turn, Again, Over, loop}
+use Rattle.word_ops.specs.Run.{Outside, Run, Gives, then_do, given, branch, Turn}
 use Rattle.c_tree.specs.declared.typed.operator.Scalar.{Scalar}
 use Rattle.c_tree.specs.declared.typed.operator.Scalar.TheVariants as scalar
 use Rattle.c_tree.specs.declared.typed.expression.TExpr.{TExpr}
@@ -20,12 +19,11 @@ use Rattle.c_tree.specs.declared.typed.statement.Initialiser.{Initialiser}
 use Rattle.c_tree.specs.declared.typed.statement.Initialiser.TheVariants as initialiser
 use Rattle.c_tree.specs.declared.typed.unit.TFunction.{TFunction}
 use Rattle.c_tree.specs.declared.typed.unit.Typed.{Typed}
-use Rattle.c_tree.specs.TypedKinds.{Kind, Holds, Signature, Names, IsOfKind}
-use Rattle.c_tree.specs.TypedUnits.{with_declared, signature_of, names_in, Jumps, in_loop, in_switch, IsReturnOf, IsStatement, AreStatements, AreBranches, AreParts, IsFunction, IsMain, IsUnit}
+use Rattle.c_tree.specs.TypedKinds.{Holds, Signature, Names, width_of}
+use Rattle.c_tree.specs.TypedUnits.{with_declared, signature_of, names_in, Jumps, in_loop, in_switch, declared_in, declared_in_all, declared_in_branches, IsReturnOf, IsStatement, AreStatements, AreBranches, AreParts, IsMain, IsUnit}
 use Rattle.c_meaning.specs.Environment.{Environment, with_objects}
-use Rattle.c_meaning.specs.Operators.{width_of}
 use Rattle.c_meaning.specs.Expressions.{Invocation, Calls, number_of, value}
-use Rattle.c_meaning.specs.Statements.{Done, Normal, Breaks, Continues, Returns, with_new_objects, in_block, piece_set, pieces_set, initialised, holds, holds_if_any, evaluated_if_any, next, after_body, again, loop_left, while_holds, first_part, after_switch, statement, statements, first_holding, statements_from}
+use Rattle.c_meaning.specs.Statements.{Done, Normal, Breaks, Continues, Returns, with_new_objects, in_block, piece_set, pieces_set, initialised, holds, holds_if_any, evaluated_if_any, next, after_body, again, loop_left, where_holds, behind_body, next_iteration, first_part, after_switch, switch_body, statement, statements, first_holding, statements_from}
 use Rattle.c_meaning.specs.Units.{with_arguments, at_closing_brace, value_of_body, body_run, function_run, calls}
 use Rattle.c_meaning.specs.Kinds.{IsValueOf, IsResultOf, IsResultIn, IsDoneOf, GivesSuch}
 use Rattle.c_meaning.specs.Laws.ValueKinds.{such-then, such-given, such-branch, such-any, IsTurnOf, such-loop, value-kind}
@@ -77,11 +75,21 @@ module _ (call : Calls) (k : Option Scalar) where
   after_switch-such Continues h = tt
   after_switch-such (Returns v) h = h
 
-  while_holds-such : (r : Run Store Bool) (f : Store → Outside → Run Store (Turn Done)) →
-      ((st : Store) (w : Outside) → GivesSuch (IsTurnOf (IsDoneOf k)) (f st w)) →
-      GivesSuch (IsTurnOf (IsDoneOf k)) (while_holds r f)
-  while_holds-such r f h =
-      such-then (λ b. Unit {0}) (IsTurnOf (IsDoneOf k)) r (λ st w b. branch b f loop_left st w) (such-any r) (λ st w b q. such-branch (IsTurnOf (IsDoneOf k)) b f loop_left st w (h st w) tt)
+  where_holds-such : (h : Store → Outside → Run Store Bool) (f : Store → Outside → Run Store (Turn Done)) →
+      ((st : Store) (w : Outside) → GivesSuch (IsTurnOf (IsDoneOf k)) (f st w)) → (st : Store) (w : Outside) →
+      GivesSuch (IsTurnOf (IsDoneOf k)) (where_holds h f st w)
+  where_holds-such h f g st w =
+      such-then (λ b. Unit {0}) (IsTurnOf (IsDoneOf k)) (h st w) (λ st w b. branch b f loop_left st w) (such-any (h st w)) (λ st w b q. such-branch (IsTurnOf (IsDoneOf k)) b f loop_left st w (g st w) tt)
+
+  behind_body-such : (h : Store → Outside → Run Store Done) (f : Store → Outside → Run Store (Turn Done)) →
+      ((st : Store) (w : Outside) → GivesSuch (IsDoneOf k) (h st w)) →
+      ((st : Store) (w : Outside) → GivesSuch (IsTurnOf (IsDoneOf k)) (f st w)) → (st : Store) (w : Outside) →
+      GivesSuch (IsTurnOf (IsDoneOf k)) (behind_body h f st w)
+  behind_body-such h f p g st w =
+      such-then (IsDoneOf k) (IsTurnOf (IsDoneOf k)) (h st w) (λ st w d. after_body d f st w) (p st w) (λ st w d q. after_body-such d f st w q (g st w))
+
+  again-such : (st : Store) (w : Outside) → GivesSuch (IsTurnOf (IsDoneOf k)) (again st w)
+  again-such st w = tt
 
   in_block-such : (b : Objects) (f : Environment → Store → Outside → Run Store Done) →
       ((env : Environment) (st : Store) (w : Outside) → GivesSuch (IsDoneOf k) (f env st w)) → (env : Environment) (st : Store) (w : Outside) →
@@ -89,9 +97,15 @@ module _ (call : Calls) (k : Option Scalar) where
   in_block-such b f h env st w =
       such-then (IsDoneOf k) (IsDoneOf k) (f (with_objects env (length st) (length b.list)) (with_new_objects b.list st) w) (λ inner w d. Gives (end_regions inner (length st) (length b.list)) w d) (h (with_objects env (length st) (length b.list)) (with_new_objects b.list st) w) (λ inner w d q. q)
 
-  evaluated-such : (o : Option TExpr) (env : Environment) (st : Store) (w : Outside) →
-      GivesSuch (IsTurnOf (IsDoneOf k)) (then_do (evaluated_if_any call o env st w) (λ st w d. again st w))
-  evaluated-such o env st w =
+  switch_body-such : (b : Objects) (f : Environment → Store → Outside → Run Store Done) →
+      ((env : Environment) (st : Store) (w : Outside) → GivesSuch (IsDoneOf k) (f env st w)) → (env : Environment) (st : Store) (w : Outside) →
+      GivesSuch (IsDoneOf k) (switch_body b f env st w)
+  switch_body-such b f h env st w =
+      such-then (IsDoneOf k) (IsDoneOf k) (in_block b f env st w) (λ st w d. Gives st w (after_switch d)) (in_block-such b f h env st w) (λ st w d q. after_switch-such d q)
+
+  next_iteration-such : (o : Option TExpr) (env : Environment) (st : Store) (w : Outside) →
+      GivesSuch (IsTurnOf (IsDoneOf k)) (next_iteration call o env st w)
+  next_iteration-such o env st w =
       such-then (λ d. Unit {0}) (IsTurnOf (IsDoneOf k)) (evaluated_if_any call o env st w) (λ st w d. again st w) (such-any (evaluated_if_any call o env st w)) (λ st w d h. tt)
 
 -- ---- statements
@@ -106,51 +120,51 @@ module _ (call : Calls) where
       such-then (IsValueOf (Holds k)) (IsDoneOf (Some k)) (value call e env st w) (λ st w v. Gives st w (Returns (Some v))) (value-kind c call cs e (Holds k) h env st w) (λ st w v q. q)
 
   mutual
-    pub statement-kind : (a : TStmt) (c : Names) (j : Jumps) → CallsGiveResults c.functions call → IsStatement c j a →
+    pub statement-kind : (a : TStmt) (c : Names) (j : Jumps) (m : ℕ) → CallsGiveResults c.functions call → IsStatement c j m a →
         (env : Environment) (st : Store) (w : Outside) → GivesSuch (IsDoneOf j.result) (statement call a env st w)
-    statement-kind (s.Evaluate e) c j cs h env st w =
+    statement-kind (s.Evaluate e) c j m cs h env st w =
         such-then (λ v. Unit {0}) (IsDoneOf j.result) (value call e env st w) (λ st w v. Gives st w Normal) (such-any (value call e env st w)) (λ st w v q. tt)
-    statement-kind (s.Initialise i v) c j cs h env st w =
+    statement-kind (s.Initialise i v) c j m cs h env st w =
         such-given (IsDoneOf j.result) (slice_get env.objects i) (λ r. initialised call v r env st w) (λ r e. initialised-such call j.result v r env st w)
-    statement-kind (s.Block' b n all) c j cs h env st w =
-        in_block-such call j.result b (statements call all) (λ env st w. statements-kind all (with_declared c b.list) j cs h env st w) env st w
-    statement-kind (s.If' n branches p (more_of-TStmt last end_of-TStmt)) c j cs h env st w =
-        first_holding-kind branches c j cs h.0 (statement call last env) (λ st w. statement-kind last c j cs h.1 env st w) env st w
-    statement-kind (s.While' e p (more_of-TStmt a end_of-TStmt)) c j cs h env st w =
-        such-loop (IsDoneOf j.result) (λ st w. while_holds (holds call e env st w) (λ st w. then_do (statement call a env st w) (λ st w d. after_body d again st w))) (λ st w. while_holds-such call j.result (holds call e env st w) (λ st w. then_do (statement call a env st w) (λ st w d. after_body d again st w)) (λ st w. such-then (IsDoneOf j.result) (IsTurnOf (IsDoneOf j.result)) (statement call a env st w) (λ st w d. after_body d again st w) (statement-kind a c (in_loop j) cs h.1 env st w) (λ st w d q. after_body-such call j.result d again st w q tt))) st w
-    statement-kind (s.Do' p (more_of-TStmt a end_of-TStmt) e) c j cs h env st w =
-        such-loop (IsDoneOf j.result) (λ st w. then_do (statement call a env st w) (λ st w d. after_body d (λ st w. while_holds (holds call e env st w) again) st w)) (λ st w. such-then (IsDoneOf j.result) (IsTurnOf (IsDoneOf j.result)) (statement call a env st w) (λ st w d. after_body d (λ st w. while_holds (holds call e env st w) again) st w) (statement-kind a c (in_loop j) cs h.0 env st w) (λ st w d q. after_body-such call j.result d (λ st w. while_holds (holds call e env st w) again) st w q (while_holds-such call j.result (holds call e env st w) again (λ st w. tt)))) st w
-    statement-kind (s.For' o e p (more_of-TStmt a end_of-TStmt)) c j cs h env st w =
-        such-loop (IsDoneOf j.result) (λ st w. while_holds (holds_if_any call o env st w) (λ st w. then_do (statement call a env st w) (λ st w d. after_body d (λ st w. then_do (evaluated_if_any call e env st w) (λ st w d. again st w)) st w))) (λ st w. while_holds-such call j.result (holds_if_any call o env st w) (λ st w. then_do (statement call a env st w) (λ st w d. after_body d (λ st w. then_do (evaluated_if_any call e env st w) (λ st w d. again st w)) st w)) (λ st w. such-then (IsDoneOf j.result) (IsTurnOf (IsDoneOf j.result)) (statement call a env st w) (λ st w d. after_body d (λ st w. then_do (evaluated_if_any call e env st w) (λ st w d. again st w)) st w) (statement-kind a c (in_loop j) cs h.2 env st w) (λ st w d q. after_body-such call j.result d (λ st w. then_do (evaluated_if_any call e env st w) (λ st w d. again st w)) st w q (evaluated-such call j.result e env st w)))) st w
-    statement-kind (s.Switch' e b n parts) c j cs h env st w =
-        such-then (λ v. Unit {0}) (IsDoneOf j.result) (value call e env st w) (λ st w v. given (number_of v) (λ i. then_do (in_block b (statements_from call parts (first_part i parts)) env st w) (λ st w d. Gives st w (after_switch d)))) (such-any (value call e env st w)) (λ st w v q. such-given (IsDoneOf j.result) (number_of v) (λ i. then_do (in_block b (statements_from call parts (first_part i parts)) env st w) (λ st w d. Gives st w (after_switch d))) (λ i q. such-then (IsDoneOf j.result) (IsDoneOf j.result) (in_block b (statements_from call parts (first_part i parts)) env st w) (λ st w d. Gives st w (after_switch d)) (in_block-such call j.result b (statements_from call parts (first_part i parts)) (λ env st w. statements_from-kind parts (first_part i parts) (with_declared c b.list) (in_switch j) cs h.3 env st w) env st w) (λ st w d q. after_switch-such call j.result d q)))
-    statement-kind s.Break c j cs h env st w = tt
-    statement-kind s.Continue c j cs h env st w = tt
-    statement-kind (s.Return o) c j cs h env st w = return-such c cs j.result o h env st w
+    statement-kind (s.Block' b n all) c j m cs h env st w =
+        in_block-such call j.result b (statements call all) (λ env st w. statements-kind all (with_declared c b.list) j (m + length b.list) cs h.1 env st w) env st w
+    statement-kind (s.If' n branches p (more_of-TStmt last end_of-TStmt)) c j m cs h env st w =
+        first_holding-kind branches c j m cs h.0 (statement call last env) (λ st w. statement-kind last c j (m + declared_in_branches branches) cs h.1 env st w) env st w
+    statement-kind (s.While' e p (more_of-TStmt a end_of-TStmt)) c j m cs h env st w =
+        such-loop (IsDoneOf j.result) (where_holds (holds call e env) (behind_body (statement call a env) again)) (where_holds-such call j.result (holds call e env) (behind_body (statement call a env) again) (behind_body-such call j.result (statement call a env) again (λ st w. statement-kind a c (in_loop j) m cs h.1 env st w) (again-such call j.result))) st w
+    statement-kind (s.Do' p (more_of-TStmt a end_of-TStmt) e) c j m cs h env st w =
+        such-loop (IsDoneOf j.result) (behind_body (statement call a env) (where_holds (holds call e env) again)) (behind_body-such call j.result (statement call a env) (where_holds (holds call e env) again) (λ st w. statement-kind a c (in_loop j) m cs h.0 env st w) (where_holds-such call j.result (holds call e env) again (again-such call j.result))) st w
+    statement-kind (s.For' o e p (more_of-TStmt a end_of-TStmt)) c j m cs h env st w =
+        such-loop (IsDoneOf j.result) (where_holds (holds_if_any call o env) (behind_body (statement call a env) (next_iteration call e env))) (where_holds-such call j.result (holds_if_any call o env) (behind_body (statement call a env) (next_iteration call e env)) (behind_body-such call j.result (statement call a env) (next_iteration call e env) (λ st w. statement-kind a c (in_loop j) m cs h.2 env st w) (next_iteration-such call j.result e env))) st w
+    statement-kind (s.Switch' e b n parts) c j m cs h env st w =
+        such-then (λ v. Unit {0}) (IsDoneOf j.result) (value call e env st w) (λ st w v. given (number_of v) (λ i. switch_body b (statements_from call parts (first_part i parts)) env st w)) (such-any (value call e env st w)) (λ st w v q. such-given (IsDoneOf j.result) (number_of v) (λ i. switch_body b (statements_from call parts (first_part i parts)) env st w) (λ i q. switch_body-such call j.result b (statements_from call parts (first_part i parts)) (λ env st w. statements_from-kind parts (first_part i parts) (with_declared c b.list) (in_switch j) (m + length b.list) cs h.4 env st w) env st w))
+    statement-kind s.Break c j m cs h env st w = tt
+    statement-kind s.Continue c j m cs h env st w = tt
+    statement-kind (s.Return o) c j m cs h env st w = return-such c cs j.result o h env st w
 
-    statements-kind : {n : _} (all : Row_of-TStmt n) (c : Names) (j : Jumps) → CallsGiveResults c.functions call →
-        AreStatements c j all → (env : Environment) (st : Store) (w : Outside) →
+    statements-kind : {n : _} (all : Row_of-TStmt n) (c : Names) (j : Jumps) (m : ℕ) → CallsGiveResults c.functions call →
+        AreStatements c j m all → (env : Environment) (st : Store) (w : Outside) →
         GivesSuch (IsDoneOf j.result) (statements call all env st w)
-    statements-kind end_of-TStmt c j cs h env st w = tt
-    statements-kind (more_of-TStmt a rest) c j cs h env st w =
-        such-then (IsDoneOf j.result) (IsDoneOf j.result) (statement call a env st w) (λ st w d. next d (statements call rest env) st w) (statement-kind a c j cs h.0 env st w) (λ st w d q. next-such call j.result d (statements call rest env) st w q (statements-kind rest c j cs h.1 env st w))
+    statements-kind end_of-TStmt c j m cs h env st w = tt
+    statements-kind (more_of-TStmt a rest) c j m cs h env st w =
+        such-then (IsDoneOf j.result) (IsDoneOf j.result) (statement call a env st w) (λ st w d. next d (statements call rest env) st w) (statement-kind a c j m cs h.0 env st w) (λ st w d q. next-such call j.result d (statements call rest env) st w q (statements-kind rest c j (m + declared_in a) cs h.1 env st w))
 
-    first_holding-kind : {n : _} (branches : Row_of-Branch n) (c : Names) (j : Jumps) → CallsGiveResults c.functions call →
-        AreBranches c j branches → (last : Store → Outside → Run Store Done) →
+    first_holding-kind : {n : _} (branches : Row_of-Branch n) (c : Names) (j : Jumps) (m : ℕ) → CallsGiveResults c.functions call →
+        AreBranches c j m branches → (last : Store → Outside → Run Store Done) →
         ((st : Store) (w : Outside) → GivesSuch (IsDoneOf j.result) (last st w)) → (env : Environment) (st : Store) (w : Outside) →
         GivesSuch (IsDoneOf j.result) (first_holding call branches last env st w)
-    first_holding-kind end_of-Branch c j cs h last l env st w = l st w
-    first_holding-kind (more_of-Branch e a rest) c j cs h last l env st w =
-        such-then (λ b. Unit {0}) (IsDoneOf j.result) (holds call e env st w) (λ st w b. branch b (statement call a env) (first_holding call rest last env) st w) (such-any (holds call e env st w)) (λ st w b q. such-branch (IsDoneOf j.result) b (statement call a env) (first_holding call rest last env) st w (statement-kind a c j cs h.1 env st w) (first_holding-kind rest c j cs h.2 last l env st w))
+    first_holding-kind end_of-Branch c j m cs h last l env st w = l st w
+    first_holding-kind (more_of-Branch e a rest) c j m cs h last l env st w =
+        such-then (λ b. Unit {0}) (IsDoneOf j.result) (holds call e env st w) (λ st w b. branch b (statement call a env) (first_holding call rest last env) st w) (such-any (holds call e env st w)) (λ st w b q. such-branch (IsDoneOf j.result) b (statement call a env) (first_holding call rest last env) st w (statement-kind a c j m cs h.1 env st w) (first_holding-kind rest c j (m + declared_in a) cs h.2 last l env st w))
 
-    statements_from-kind : {n : _} (parts : Row_of-Part n) (i : ℕ) (c : Names) (j : Jumps) → CallsGiveResults c.functions call →
-        AreParts c j parts → (env : Environment) (st : Store) (w : Outside) →
+    statements_from-kind : {n : _} (parts : Row_of-Part n) (i : ℕ) (c : Names) (j : Jumps) (m : ℕ) → CallsGiveResults c.functions call →
+        AreParts c j m parts → (env : Environment) (st : Store) (w : Outside) →
         GivesSuch (IsDoneOf j.result) (statements_from call parts i env st w)
-    statements_from-kind end_of-Part i c j cs h env st w = tt
-    statements_from-kind (more_of-Part labels m body rest) zero c j cs h env st w =
-        such-then (IsDoneOf j.result) (IsDoneOf j.result) (statements call body env st w) (λ st w d. next d (statements_from call rest zero env) st w) (statements-kind body c j cs h.0 env st w) (λ st w d q. next-such call j.result d (statements_from call rest zero env) st w q (statements_from-kind rest zero c j cs h.1 env st w))
-    statements_from-kind (more_of-Part labels m body rest) (suc i) c j cs h env st w =
-        statements_from-kind rest i c j cs h.1 env st w
+    statements_from-kind end_of-Part i c j m cs h env st w = tt
+    statements_from-kind (more_of-Part labels q body rest) zero c j m cs h env st w =
+        such-then (IsDoneOf j.result) (IsDoneOf j.result) (statements call body env st w) (λ st w d. next d (statements_from call rest zero env) st w) (statements-kind body c j m cs h.0 env st w) (λ st w d q. next-such call j.result d (statements_from call rest zero env) st w q (statements_from-kind rest zero c j (m + declared_in_all body) cs h.1 env st w))
+    statements_from-kind (more_of-Part labels q body rest) (suc i) c j m cs h env st w =
+        statements_from-kind rest i c j (m + declared_in_all body) cs h.1 env st w
 
 -- ---- functions
 
@@ -190,7 +204,7 @@ module _ (u : Typed) (whole : IsUnit u) where
       body : (f : TFunction) → slice_get u.functions i.function ≡ Some f → (st : Store) →
           GivesSuch (IsResultOf f.scalar) (body_run call (length u.objects) f (i.function == u.main) (length i.store) st w)
       body f e st =
-          such-then (IsDoneOf f.scalar) (IsResultOf f.scalar) (statement call f.body (with_objects (record { statics = length u.objects; objects = [] }) (length i.store) (length f.parameters)) st w) (λ st w d. Gives (end_regions st (length i.store) (length f.parameters)) w (value_of_body (i.function == u.main) d)) (statement-kind call f.body (names_in u f) (record { breaks = false; continues = false; result = f.scalar }) cs (whole.functions i.function f e) (with_objects (record { statics = length u.objects; objects = [] }) (length i.store) (length f.parameters)) st w) (λ st w d q. body-such (i.function == u.main) f.scalar d (main-int u whole i.function f e) q)
+          such-then (IsDoneOf f.scalar) (IsResultOf f.scalar) (statement call f.body (with_objects (record { statics = length u.objects; objects = [] }) (length i.store) (length f.parameters)) st w) (λ st w d. Gives (end_regions st (length i.store) (length f.parameters)) w (value_of_body (i.function == u.main) d)) (statement-kind call f.body (names_in u f) (record { breaks = false; continues = false; result = f.scalar }) (length f.parameters) cs (whole.functions i.function f e).1 (with_objects (record { statics = length u.objects; objects = [] }) (length i.store) (length f.parameters)) st w) (λ st w d q. body-such (i.function == u.main) f.scalar d (main-int u whole i.function f e) q)
 
       go : (o : Option TFunction) → slice_get u.functions i.function ≡ o →
           GivesSuch (IsResultIn (option_map signature_of o)) (given o (λ f. given (with_arguments f.parameters i.arguments i.store) (λ st. body_run call (length u.objects) f (i.function == u.main) (length i.store) st w)))

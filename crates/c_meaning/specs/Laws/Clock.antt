@@ -1,14 +1,13 @@
 -- A run takes of the input, the output and the ticks alone, and with a longer clock it is the same run, further.
-use Rattle.std.proofs.Common.{◌≡◌, sym, ap, ◌∙◌, ℕ, ◌+◌, List, length}
+use Rattle.std.proofs.Common.{◌≡◌, sym, ap, ℕ, ◌+◌, List}
 use Rattle.std.proofs.lemmas.Option.{none-some}
-use Rattle.std.specs.Prelude.{Option, Some, None, ◌-◌}
-use Rattle.word_ops.specs.Store.{Value, Store}
-use Rattle.word_ops.specs.Run.{Outside, Exit, Deep, More, Run, Gives, Ends, Undefined, nested}
-use Rattle.word_ops.specs.Outcome.{Outcome, outcome_of, start, IsFurther, IsWithinClock}
+use Rattle.std.specs.Prelude.{Some, None}
+use Rattle.word_ops.specs.Run.{Exit, Deep, More, Run, Gives, Ends, Undefined}
+use Rattle.word_ops.specs.Outcome.{outcome_of, start}
 use Rattle.word_ops.specs.Clock.{GoesOn, IsTimed}
 use Rattle.word_ops.specs.Laws.Clock.{IsTimed-Gives, IsTimed-exit, IsTimed-undefined, IsTimed-then, IsTimed-tick, IsTimed-put_byte, IsTimed-get_byte, IsTimed-loop, IsTimed-nested, IsTimed-main}
 use Rattle.c_tree.specs.declared.typed.unit.Typed.{Typed}
-use Rattle.c_meaning.specs.Expressions.{Invocation, Calls}
+use Rattle.c_meaning.specs.Expressions.{Invocation}
 use Rattle.c_meaning.specs.Units.{function_run, calls, first_call, run_of_unit, outcome_of_unit}
 use Rattle.c_meaning.specs.Laws.Congruence.{Relation, IsCongruence}
 use Rattle.c_meaning.specs.Laws.Related.{function_run-related}

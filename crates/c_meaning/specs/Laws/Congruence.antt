@@ -1,7 +1,7 @@
 -- Relations of runs that all ways to put runs together keep. A law of the meaning by induction over trees is proved once, for any
 -- such relation.
 use Rattle.std.specs.Prelude.{ℕ, Bool, true, false, Option, Some, None}
-use Rattle.word_ops.specs.Run.{Outside, Run, Gives, Ends, Undefined, then_do, given, branch, tick, Turn, loop, put_byte, get_byte, exit_with}
+use Rattle.word_ops.specs.Run.{Outside, Run, Gives, Undefined, then_do, given, branch, tick, Turn, loop, put_byte, get_byte, exit_with}
 
 -- a relation of two parts of programs, whatever their states and results are
 abbrev pub Relation : Type 1

@@ -2,14 +2,14 @@
 use Rattle.std.proofs.Common.{◌≡◌, ◌≢◌, refl, sym, ap, ◌∙◌, subst, ℕ, zero, suc, ◌+◌, ◌≤◌, ◌<◌, List, [], ◌∷◌, ◌++◌, length, arith, length-append}
 use Rattle.std.proofs.lemmas.Option.{none-some, same_Some}
 use Rattle.std.specs.Prelude.{◌-◌, Option, Some, None}
-use Rattle.word_ops.specs.Store.{Value, Number, Pointer, Store}
-use Rattle.word_ops.specs.Run.{Outside, End, Exit, Deep, More, Run, Gives, Ends, Undefined, then_do, tick_from, tick, Turn, Again, Over, after_turn, loop, put_byte, get_byte, nested, end_of_main}
+use Rattle.word_ops.specs.Store.{Value, Number, Pointer}
+use Rattle.word_ops.specs.Run.{Outside, End, Exit, Deep, More, Run, Gives, Ends, Undefined, then_do, tick_from, tick, Turn, Again, Over, after_turn, loop, end_of_main}
 use Rattle.word_ops.specs.Outcome.{Outcome, start, outcome_of, IsFurther}
 use Rattle.word_ops.specs.Clock.{Reaches, RunReaches, IsTimed}
-use Rattle.word_ops.specs.Laws.Clock.{Reaches-refl, RunReaches-earlier, IsTimed-Gives, IsTimed-exit, IsTimed-undefined, IsTimed-then, IsTimed-tick, IsTimed-put_byte, IsTimed-get_byte, IsTimed-loop, IsTimed-main, loop-first}
+use Rattle.word_ops.specs.Laws.Clock.{RunReaches-earlier, IsTimed-Gives, IsTimed-exit, IsTimed-undefined, IsTimed-then, IsTimed-tick, IsTimed-put_byte, IsTimed-get_byte, IsTimed-loop, loop-first}
 use Rattle.c_tree.specs.declared.typed.unit.Typed.{Typed}
 use Rattle.c_meaning.specs.Expressions.{Invocation}
-use Rattle.c_meaning.specs.Units.{function_run, calls, first_call, run_of_unit, outcome_of_unit}
+use Rattle.c_meaning.specs.Units.{calls, first_call, run_of_unit, outcome_of_unit}
 use Rattle.c_meaning.specs.Depth.{GoesDeeper, IsDeeper}
 use Rattle.c_meaning.specs.Laws.Congruence.{Relation, IsCongruence}
 use Rattle.c_meaning.specs.Laws.Related.{function_run-related}

@@ -1,5 +1,5 @@
 -- Operators give values of the kinds that stand for them.
-use Rattle.std.proofs.Common.{◌≡◌, refl, sym, ap, ◌∙◌, subst, ℕ, ◌+◌, ◌<◌, arith, ⊎_elim}
+use Rattle.std.proofs.Common.{◌≡◌, refl, sym, ap, ◌∙◌, subst, ℕ, ◌<◌, arith, ⊎_elim}
 use Rattle.std.proofs.lemmas.Bool.{false≢true}
 use Rattle.std.proofs.lemmas.Bool.Decides.{eqb_tells}
 use Rattle.std.proofs.lemmas.Option.{none-some, same_Some, option_and_then_some}
@@ -9,12 +9,12 @@ use Rattle.word_ops.specs.declared.operation.Op.{Op}
 use Rattle.word_ops.specs.declared.operation.Op.TheVariants as op
 use Rattle.word_ops.specs.declared.operation.Width.{Width}
 use Rattle.word_ops.specs.declared.operation.Width.TheVariants as width
-use Rattle.word_ops.specs.Choice.{only_if, when}
+use Rattle.word_ops.specs.Choice.{only_if}
 use Rattle.word_ops.specs.Word.{number_of_truth, word_of_integer}
-use Rattle.word_ops.specs.Operation.{machine_word, word_of_operation}
+use Rattle.word_ops.specs.Operation.{word_of_operation}
 use Rattle.word_ops.specs.Store.{Value, Number, Pointer, Store, Shape, shape_at, is_live}
-use Rattle.word_ops.specs.Access.{narrowed_to, IsInRange, is_kept_by, load, load_integer, load_pointer, pointer_only, write}
-use Rattle.word_ops.specs.Values.{pointer_within, value_of_operation, truth, is_pointer, is_pointer_or_null, equal_pointers, pointer_before, pointer_at_most, place_within, pointer_plus, pointer_minus}
+use Rattle.word_ops.specs.Access.{narrowed_to, IsInRange, is_kept_by, load, pointer_only, write}
+use Rattle.word_ops.specs.Values.{value_of_operation, truth, is_pointer, is_pointer_or_null, equal_pointers, pointer_before, pointer_at_most, place_within, pointer_plus, pointer_minus}
 use Rattle.word_ops.specs.Laws.Lists.{only_if-some, when-some}
 use Rattle.word_ops.specs.Laws.Operations.{word_of_operation-small, word_of_integer-small, number_of_truth-le}
 use Rattle.word_ops.specs.Laws.Widths.{narrowed_to-small, narrowed_to-in_range, narrowed_to-is}
@@ -39,9 +39,9 @@ use Rattle.c_tree.specs.declared.typed.operator.Primary.{Primary}
 use Rattle.c_tree.specs.declared.typed.operator.Primary.TheVariants as primary
 use Rattle.c_tree.specs.declared.typed.operator.Unary.{Unary}
 use Rattle.c_tree.specs.declared.typed.operator.Unary.TheVariants as unary
-use Rattle.c_tree.specs.TypedKinds.{Kind, Void, Holds, Names, word, IsScalar, IsInteger, IsPointer, Converts, ArithmeticGives, ChangesBy, Changes, Increments, UnaryGives, PrimaryGives}
+use Rattle.c_tree.specs.TypedKinds.{Kind, Void, Holds, Names, word, IsInteger, IsPointer, Converts, ArithmeticGives, ChangesBy, Changes, Increments, UnaryGives, PrimaryGives, width_of}
 use Rattle.c_meaning.specs.Environment.{Environment, automatic_place, static_place}
-use Rattle.c_meaning.specs.Operators.{value_at, narrowed_value, truth_value, converted, related, integers_compared, unequal_pointers, pointers_compared, bytes_moved, moved_forward, moved_back, elements_in, elements_between, arithmetic_value, Changed, unchanged, stored, operated, assigned_by, assigned, given_of, incremented, primary_value, negated, unary_value, width_of}
+use Rattle.c_meaning.specs.Operators.{value_at, narrowed_value, truth_value, converted, related, integers_compared, unequal_pointers, pointers_compared, bytes_moved, moved_forward, moved_back, elements_in, elements_between, arithmetic_value, Changed, unchanged, stored, operated, assigned_by, assigned, given_of, incremented, primary_value, negated, unary_value}
 use Rattle.c_meaning.specs.Kinds.{IsValueOf}
 
 -- ---- words
@@ -223,13 +223,13 @@ arithmetic-kind st (arithmetic.Compare r s) i j g x y u c hx hy e =
 arithmetic-kind st (arithmetic.ComparePointers r) i j g x y u c hx hy e =
     subst (λ g. IsValueOf g u) (sym c.2) (pointers_compared-kind st r x y u e)
 arithmetic-kind st (arithmetic.PointerPlus z) i j g x y u c hx hy e =
-    subst (λ g. IsValueOf g u) (sym c.2) (moved_forward-pointer st z x y u e)
+    subst (λ g. IsValueOf g u) (sym c.3) (moved_forward-pointer st z x y u e)
 arithmetic-kind st (arithmetic.PlusPointer z) i j g x y u c hx hy e =
-    subst (λ g. IsValueOf g u) (sym c.2) (moved_forward-pointer st z y x u e)
+    subst (λ g. IsValueOf g u) (sym c.3) (moved_forward-pointer st z y x u e)
 arithmetic-kind st (arithmetic.PointerMinus z) i j g x y u c hx hy e =
-    subst (λ g. IsValueOf g u) (sym c.2) (moved_back-pointer st z x y u e)
+    subst (λ g. IsValueOf g u) (sym c.3) (moved_back-pointer st z x y u e)
 arithmetic-kind st (arithmetic.Difference n) i j g x y u c hx hy e =
-    subst (λ g. IsValueOf g u) (sym c.2) (elements_between-kind st n x y u e)
+    subst (λ g. IsValueOf g u) (sym c.3) (elements_between-kind st n x y u e)
 
 -- ---- what changes an object
 
@@ -307,7 +307,7 @@ unary-kind st unary.Complement j g v h c hv e =
 unary-kind st unary.Not j g v h c hv e =
     subst (λ g. IsValueOf g h.value) (sym c.1) (truth-word h.value (truth_value-truth (option_map not (truth st v)) h.value (unchanged-value st (truth_value (option_map not (truth st v))) h e)))
 unary-kind st (unary.Member n) j g v h c hv e =
-    subst (λ g. IsValueOf g h.value) (sym c.1) (pointer_plus-pointer st v h.value (pos n) (unchanged-value st (pointer_plus st v (pos n)) h e))
+    subst (λ g. IsValueOf g h.value) (sym c.2) (pointer_plus-pointer st v h.value (pos n) (unchanged-value st (pointer_plus st v (pos n)) h e))
 unary-kind st (unary.Increment i) j g v h c hv e =
     subst (λ g. IsValueOf g h.value) (sym c.2) (incremented-kind st i v h c.1 e)
 unary-kind st unary.Drop j g v h c hv e = subst (λ g. IsValueOf g h.value) (sym c) tt

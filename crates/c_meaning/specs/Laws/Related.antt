@@ -1,10 +1,10 @@
 -- Where calls are related by a congruence, so are the runs of expressions, statements and functions with these calls in them.
-use Rattle.std.proofs.Common.{◌≡◌, refl, ℕ, zero, suc, List, [], ◌∷◌, ◌++◌, length}
-use Rattle.std.specs.Prelude.{◌%◌, ◌==◌, map, Bool, true, false, Option, Some, None, slice_get}
+use Rattle.std.proofs.Common.{ℕ, zero, suc, List, [], ◌∷◌, length}
+use Rattle.std.specs.Prelude.{◌%◌, ◌==◌, map, Bool, true, Option, Some, None, slice_get}
 use Rattle.word_ops.specs.Store.{Value, Number, Pointer, Byte, Store, end_regions, refill_region}
 use Rattle.word_ops.specs.Access.{put_cells, initialise}
 use Rattle.word_ops.specs.Values.{truth}
-use Rattle.word_ops.specs.Run.{Outside, Run, Gives, then_do, given, branch, tick, Turn, Again, Over, put_byte, exit_with}
+use Rattle.word_ops.specs.Run.{Outside, Run, Gives, then_do, given, branch, Turn, Again, Over, put_byte, exit_with}
 use Rattle.c_tree.specs.declared.typed.expression.TExpr.{TExpr, Row_of-TExpr, end_of-TExpr, more_of-TExpr, Row_of-Step, end_of-Step, more_of-Step, Row_of-Arm, end_of-Arm, more_of-Arm, Row_of-Target, end_of-Target, more_of-Target}
 use Rattle.c_tree.specs.declared.typed.expression.TExpr.TheVariants as x
 use Rattle.c_tree.specs.declared.typed.expression.Step.TheVariants as step
@@ -18,10 +18,11 @@ use Rattle.c_tree.specs.declared.typed.statement.Initialiser.{Initialiser}
 use Rattle.c_tree.specs.declared.typed.statement.Initialiser.TheVariants as initialiser
 use Rattle.c_tree.specs.declared.typed.unit.TFunction.{TFunction}
 use Rattle.c_tree.specs.declared.typed.unit.Typed.{Typed}
+use Rattle.c_tree.specs.TypedKinds.{width_of}
 use Rattle.c_meaning.specs.Environment.{Environment, automatic_place, with_objects}
-use Rattle.c_meaning.specs.Operators.{Changed, arithmetic_value, assigned, primary_value, unary_value, width_of}
+use Rattle.c_meaning.specs.Operators.{Changed, arithmetic_value, assigned, primary_value, unary_value}
 use Rattle.c_meaning.specs.Expressions.{Invocation, Calls, gives_changed, number_of, put_value, exit_value, called, called_only, by_truth, gives_number, value, stepped, values, every, some, chosen, assigning}
-use Rattle.c_meaning.specs.Statements.{Done, Normal, Breaks, Continues, Returns, with_new_objects, in_block, piece_set, pieces_set, initialised, holds, holds_if_any, evaluated_if_any, next, after_body, again, loop_left, while_holds, first_part, after_switch, statement, statements, first_holding, statements_from}
+use Rattle.c_meaning.specs.Statements.{Done, Normal, Breaks, Continues, Returns, with_new_objects, in_block, piece_set, pieces_set, initialised, holds, holds_if_any, evaluated_if_any, next, after_body, again, loop_left, where_holds, behind_body, next_iteration, first_part, after_switch, switch_body, statement, statements, first_holding, statements_from}
 use Rattle.c_meaning.specs.Units.{with_arguments, value_of_body, body_run, function_run}
 use Rattle.c_meaning.specs.Laws.Congruence.{Relation, IsCongruence, related-given, related-branch}
 
@@ -174,15 +175,30 @@ module _ (R : Relation) (c : IsCongruence R) where
     again-related : (st : Store) → R Store (Turn Done) (again st) (again st)
     again-related st = c.gives Store (Turn Done) st Again
 
-    while_holds-related :
-        (h k : Outside → Run Store Bool) (f g : Store → Outside → Run Store (Turn Done)) → R Store Bool h k → ((st : Store) → R Store (Turn Done) (f st) (g st)) → R Store (Turn Done) (λ w. while_holds (h w) f) (λ w. while_holds (k w) g)
-    while_holds-related h k f g p q =
-        c.then_ Store Store Bool (Turn Done) h k (λ st w b. branch b f loop_left st w) (λ st w b. branch b g loop_left st w) p (λ st b. related-branch R c Store (Turn Done) b f loop_left g loop_left st (q st) (c.gives Store (Turn Done) st (Over Normal)))
+    where_holds-related :
+        (h k : Store → Outside → Run Store Bool) (f g : Store → Outside → Run Store (Turn Done)) → ((st : Store) → R Store Bool (h st) (k st)) → ((st : Store) → R Store (Turn Done) (f st) (g st)) → (st : Store) → R Store (Turn Done) (where_holds h f st) (where_holds k g st)
+    where_holds-related h k f g p q st =
+        c.then_ Store Store Bool (Turn Done) (h st) (k st) (λ st w b. branch b f loop_left st w) (λ st w b. branch b g loop_left st w) (p st) (λ st b. related-branch R c Store (Turn Done) b f loop_left g loop_left st (q st) (c.gives Store (Turn Done) st (Over Normal)))
+
+    behind_body-related :
+        (h k : Store → Outside → Run Store Done) (f g : Store → Outside → Run Store (Turn Done)) → ((st : Store) → R Store Done (h st) (k st)) → ((st : Store) → R Store (Turn Done) (f st) (g st)) → (st : Store) → R Store (Turn Done) (behind_body h f st) (behind_body k g st)
+    behind_body-related h k f g p q st =
+        c.then_ Store Store Done (Turn Done) (h st) (k st) (λ st w d. after_body d f st w) (λ st w d. after_body d g st w) (p st) (λ st d. after_body-related d f g st (q st))
+
+    next_iteration-related : (e : Option TExpr) (env : Environment) (st : Store) →
+        R Store (Turn Done) (next_iteration call e env st) (next_iteration other e env st)
+    next_iteration-related e env st =
+        c.then_ Store Store Done (Turn Done) (evaluated_if_any call e env st) (evaluated_if_any other e env st) (λ st w d. again st w) (λ st w d. again st w) (evaluated-related e env st) (λ st d. again-related st)
 
     in_block-related :
         (b : Objects) (f g : Environment → Store → Outside → Run Store Done) → ((env : Environment) (st : Store) → R Store Done (f env st) (g env st)) → (env : Environment) (st : Store) → R Store Done (in_block b f env st) (in_block b g env st)
     in_block-related b f g h env st =
         c.then_ Store Store Done Done (f (with_objects env (length st) (length b.list)) (with_new_objects b.list st)) (g (with_objects env (length st) (length b.list)) (with_new_objects b.list st)) (λ inner w d. Gives (end_regions inner (length st) (length b.list)) w d) (λ inner w d. Gives (end_regions inner (length st) (length b.list)) w d) (h (with_objects env (length st) (length b.list)) (with_new_objects b.list st)) (λ inner d. c.gives Store Done (end_regions inner (length st) (length b.list)) d)
+
+    switch_body-related :
+        (b : Objects) (f g : Environment → Store → Outside → Run Store Done) → ((env : Environment) (st : Store) → R Store Done (f env st) (g env st)) → (env : Environment) (st : Store) → R Store Done (switch_body b f env st) (switch_body b g env st)
+    switch_body-related b f g h env st =
+        c.then_ Store Store Done Done (in_block b f env st) (in_block b g env st) (λ st w d. Gives st w (after_switch d)) (λ st w d. Gives st w (after_switch d)) (in_block-related b f g h env st) (λ st d. c.gives Store Done st (after_switch d))
 
     mutual
       pub statement-related : (a : TStmt) (env : Environment) (st : Store) →
@@ -195,13 +211,13 @@ module _ (R : Relation) (c : IsCongruence R) where
       statement-related (s.If' n branches p (more_of-TStmt last end_of-TStmt)) env st =
           first_holding-related branches (statement call last env) (statement other last env) env (λ st. statement-related last env st) st
       statement-related (s.While' e p (more_of-TStmt a end_of-TStmt)) env st =
-          c.loops Store Done (λ st w. while_holds (holds call e env st w) (λ st w. then_do (statement call a env st w) (λ st w d. after_body d again st w))) (λ st w. while_holds (holds other e env st w) (λ st w. then_do (statement other a env st w) (λ st w d. after_body d again st w))) (λ st. while_holds-related (holds call e env st) (holds other e env st) (λ st w. then_do (statement call a env st w) (λ st w d. after_body d again st w)) (λ st w. then_do (statement other a env st w) (λ st w d. after_body d again st w)) (holds-related e env st) (λ st. c.then_ Store Store Done (Turn Done) (statement call a env st) (statement other a env st) (λ st w d. after_body d again st w) (λ st w d. after_body d again st w) (statement-related a env st) (λ st d. after_body-related d again again st (again-related st)))) st
+          c.loops Store Done (where_holds (holds call e env) (behind_body (statement call a env) again)) (where_holds (holds other e env) (behind_body (statement other a env) again)) (where_holds-related (holds call e env) (holds other e env) (behind_body (statement call a env) again) (behind_body (statement other a env) again) (holds-related e env) (behind_body-related (statement call a env) (statement other a env) again again (λ st. statement-related a env st) again-related)) st
       statement-related (s.Do' p (more_of-TStmt a end_of-TStmt) e) env st =
-          c.loops Store Done (λ st w. then_do (statement call a env st w) (λ st w d. after_body d (λ st w. while_holds (holds call e env st w) again) st w)) (λ st w. then_do (statement other a env st w) (λ st w d. after_body d (λ st w. while_holds (holds other e env st w) again) st w)) (λ st. c.then_ Store Store Done (Turn Done) (statement call a env st) (statement other a env st) (λ st w d. after_body d (λ st w. while_holds (holds call e env st w) again) st w) (λ st w d. after_body d (λ st w. while_holds (holds other e env st w) again) st w) (statement-related a env st) (λ st d. after_body-related d (λ st w. while_holds (holds call e env st w) again) (λ st w. while_holds (holds other e env st w) again) st (while_holds-related (holds call e env st) (holds other e env st) again again (holds-related e env st) again-related))) st
+          c.loops Store Done (behind_body (statement call a env) (where_holds (holds call e env) again)) (behind_body (statement other a env) (where_holds (holds other e env) again)) (behind_body-related (statement call a env) (statement other a env) (where_holds (holds call e env) again) (where_holds (holds other e env) again) (λ st. statement-related a env st) (where_holds-related (holds call e env) (holds other e env) again again (holds-related e env) again-related)) st
       statement-related (s.For' o e p (more_of-TStmt a end_of-TStmt)) env st =
-          c.loops Store Done (λ st w. while_holds (holds_if_any call o env st w) (λ st w. then_do (statement call a env st w) (λ st w d. after_body d (λ st w. then_do (evaluated_if_any call e env st w) (λ st w d. again st w)) st w))) (λ st w. while_holds (holds_if_any other o env st w) (λ st w. then_do (statement other a env st w) (λ st w d. after_body d (λ st w. then_do (evaluated_if_any other e env st w) (λ st w d. again st w)) st w))) (λ st. while_holds-related (holds_if_any call o env st) (holds_if_any other o env st) (λ st w. then_do (statement call a env st w) (λ st w d. after_body d (λ st w. then_do (evaluated_if_any call e env st w) (λ st w d. again st w)) st w)) (λ st w. then_do (statement other a env st w) (λ st w d. after_body d (λ st w. then_do (evaluated_if_any other e env st w) (λ st w d. again st w)) st w)) (holds_if_any-related o env st) (λ st. c.then_ Store Store Done (Turn Done) (statement call a env st) (statement other a env st) (λ st w d. after_body d (λ st w. then_do (evaluated_if_any call e env st w) (λ st w d. again st w)) st w) (λ st w d. after_body d (λ st w. then_do (evaluated_if_any other e env st w) (λ st w d. again st w)) st w) (statement-related a env st) (λ st d. after_body-related d (λ st w. then_do (evaluated_if_any call e env st w) (λ st w d. again st w)) (λ st w. then_do (evaluated_if_any other e env st w) (λ st w d. again st w)) st (c.then_ Store Store Done (Turn Done) (evaluated_if_any call e env st) (evaluated_if_any other e env st) (λ st w d. again st w) (λ st w d. again st w) (evaluated-related e env st) (λ st d. again-related st))))) st
+          c.loops Store Done (where_holds (holds_if_any call o env) (behind_body (statement call a env) (next_iteration call e env))) (where_holds (holds_if_any other o env) (behind_body (statement other a env) (next_iteration other e env))) (where_holds-related (holds_if_any call o env) (holds_if_any other o env) (behind_body (statement call a env) (next_iteration call e env)) (behind_body (statement other a env) (next_iteration other e env)) (holds_if_any-related o env) (behind_body-related (statement call a env) (statement other a env) (next_iteration call e env) (next_iteration other e env) (λ st. statement-related a env st) (next_iteration-related e env))) st
       statement-related (s.Switch' e b n parts) env st =
-          c.then_ Store Store Value Done (value call e env st) (value other e env st) (λ st w v. given (number_of v) (λ k. then_do (in_block b (statements_from call parts (first_part k parts)) env st w) (λ st w d. Gives st w (after_switch d)))) (λ st w v. given (number_of v) (λ k. then_do (in_block b (statements_from other parts (first_part k parts)) env st w) (λ st w d. Gives st w (after_switch d)))) (value-related e env st) (λ st v. related-given R c Store ℕ Done (number_of v) (λ k w. then_do (in_block b (statements_from call parts (first_part k parts)) env st w) (λ st w d. Gives st w (after_switch d))) (λ k w. then_do (in_block b (statements_from other parts (first_part k parts)) env st w) (λ st w d. Gives st w (after_switch d))) (λ k. c.then_ Store Store Done Done (in_block b (statements_from call parts (first_part k parts)) env st) (in_block b (statements_from other parts (first_part k parts)) env st) (λ st w d. Gives st w (after_switch d)) (λ st w d. Gives st w (after_switch d)) (in_block-related b (statements_from call parts (first_part k parts)) (statements_from other parts (first_part k parts)) (λ env st. statements_from-related parts (first_part k parts) env st) env st) (λ st d. c.gives Store Done st (after_switch d))))
+          c.then_ Store Store Value Done (value call e env st) (value other e env st) (λ st w v. given (number_of v) (λ k. switch_body b (statements_from call parts (first_part k parts)) env st w)) (λ st w v. given (number_of v) (λ k. switch_body b (statements_from other parts (first_part k parts)) env st w)) (value-related e env st) (λ st v. related-given R c Store ℕ Done (number_of v) (λ k w. switch_body b (statements_from call parts (first_part k parts)) env st w) (λ k w. switch_body b (statements_from other parts (first_part k parts)) env st w) (λ k. switch_body-related b (statements_from call parts (first_part k parts)) (statements_from other parts (first_part k parts)) (λ env st. statements_from-related parts (first_part k parts) env st) env st))
       statement-related s.Break env st = c.gives Store Done st Breaks
       statement-related s.Continue env st = c.gives Store Done st Continues
       statement-related (s.Return None) env st = c.gives Store Done st (Returns None)

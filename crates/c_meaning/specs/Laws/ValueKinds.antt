@@ -1,32 +1,18 @@
 -- What an expression, a statement and a call give is of the kind that stands for it: so a value that reaches a narrow object is
 -- in its range, and each number is a word.
-use Rattle.std.proofs.Common.{◌≡◌, refl, sym, ap, ◌∙◌, subst, ℕ, zero, suc, List, [], ◌∷◌, length, arith}
-use Rattle.std.proofs.lemmas.Option.{none-some, same_Some}
-use Rattle.std.specs.Prelude.{◌+◌, ◌-◌, ◌^◌, ◌%◌, ◌==◌, map, Bool, true, false, Option, Some, None, slice_get}
-use Rattle.word_ops.specs.declared.operation.Width.TheVariants as width
-use Rattle.word_ops.specs.Store.{Value, Number, Pointer, Byte, Store, end_regions, refill_region}
-use Rattle.word_ops.specs.Access.{put_cells, initialise}
+use Rattle.std.proofs.Common.{◌≡◌, refl, sym, subst, ℕ, zero, suc, List, [], ◌∷◌, arith}
+use Rattle.std.specs.Prelude.{◌-◌, ◌^◌, ◌%◌, Bool, true, false, Option, Some, None, slice_get}
+use Rattle.word_ops.specs.Store.{Value, Number, Store}
 use Rattle.word_ops.specs.Values.{truth}
-use Rattle.word_ops.specs.Run.{Outside, End, Run, Gives, Ends, More, Undefined, then_do, given, branch, tick_from, tick, Turn, Again, Over, after_turn, turns, loop, put_byte, next_word, get_byte, exit_with, nested}
-use Rattle.word_ops.specs.Laws.Runs.{next_word-in}
+use Rattle.word_ops.specs.Run.{Outside, Run, Gives, Ends, More, Undefined, then_do, given, branch, tick_from, tick, Turn, Again, Over, after_turn, turns, loop, put_byte, next_word, get_byte, exit_with}
 use Rattle.c_tree.specs.declared.typed.operator.Scalar.{Scalar}
-use Rattle.c_tree.specs.declared.typed.operator.Scalar.TheVariants as scalar
 use Rattle.c_tree.specs.declared.typed.expression.TExpr.{TExpr, Row_of-TExpr, end_of-TExpr, more_of-TExpr, Row_of-Step, end_of-Step, more_of-Step, Row_of-Arm, end_of-Arm, more_of-Arm, Row_of-Target, end_of-Target, more_of-Target}
 use Rattle.c_tree.specs.declared.typed.expression.TExpr.TheVariants as x
 use Rattle.c_tree.specs.declared.typed.expression.Step.TheVariants as step
 use Rattle.c_tree.specs.declared.typed.expression.Target.TheVariants as target
-use Rattle.c_tree.specs.declared.typed.statement.TStmt.{TStmt, Row_of-TStmt, end_of-TStmt, more_of-TStmt, Row_of-Branch, end_of-Branch, more_of-Branch, Row_of-Part, end_of-Part, more_of-Part}
-use Rattle.c_tree.specs.declared.typed.statement.TStmt.TheVariants as s
-use Rattle.c_tree.specs.declared.typed.statement.Objects.{Objects}
-use Rattle.c_tree.specs.declared.typed.statement.Initial.{Initial}
-use Rattle.c_tree.specs.declared.typed.statement.Initial.TheVariants as initial
-use Rattle.c_tree.specs.declared.typed.statement.Initialiser.{Initialiser}
-use Rattle.c_tree.specs.declared.typed.statement.Initialiser.TheVariants as initialiser
-use Rattle.c_tree.specs.declared.typed.unit.TFunction.{TFunction}
-use Rattle.c_tree.specs.declared.typed.unit.Typed.{Typed}
-use Rattle.c_tree.specs.TypedKinds.{Kind, Void, Holds, Signature, Names, word, IsOfKind, StepsGive, AreScalar, AreOfKinds, AreArguments, ArmsGive, TargetsGive, ResultIs}
-use Rattle.c_meaning.specs.Environment.{Environment, automatic_place, with_objects}
-use Rattle.c_meaning.specs.Operators.{Changed, arithmetic_value, assigned, primary_value, unary_value, width_of}
+use Rattle.c_tree.specs.TypedKinds.{Kind, Void, Holds, Signature, Names, word, IsOfKind, StepsGive, ArmsGive, TargetsGive, ResultIs}
+use Rattle.c_meaning.specs.Environment.{Environment, automatic_place}
+use Rattle.c_meaning.specs.Operators.{Changed, arithmetic_value, assigned, primary_value, unary_value}
 use Rattle.c_meaning.specs.Expressions.{Invocation, Calls, gives_changed, number_of, put_value, exit_value, called, called_only, by_truth, gives_number, value, stepped, values, every, some, chosen, assigning}
 use Rattle.c_meaning.specs.Kinds.{IsValueOf, IsResultOf, IsResultIn, GivesSuch}
 use Rattle.c_meaning.specs.Laws.OperatorKinds.{arithmetic-kind, assigned-kind, unary-kind, primary-kind}

@@ -152,6 +152,7 @@ pub enum Unary {
     /// `++` or `--` of the object of scalar type that the value is the address of
     Increment(Increment),
     /// drops the value: an expression statement, a left operand of a comma, a part of a `for`, a cast to
-    /// void (C11 6.3.2.2, 6.8.3p2)
+    /// void (C11 6.3.2.2, 6.8.3p2). A call whose value is dropped is a form of its own, and a drop of a
+    /// comma stands at its last operand
     Drop,
 }
