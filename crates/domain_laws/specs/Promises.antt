@@ -68,6 +68,10 @@ BringsNone {S} has old new = (x : ℕ) → has new x → has old x
 abbrev pub HasNodeAlone : {S : Type 0} → (S → ℕ → Type 0) → (S → ℕ → Node) → S → S → ℕ → Type 0
 HasNodeAlone {S} has node old new t = (x : ℕ) → has old x → node old x ≢ node new t
 
+-- the term is the one of this node, and was so where there was one
+abbrev pub IsOneTerm : {S : Type 0} → (S → ℕ → Type 0) → (S → ℕ → Node) → S → S → ℕ → Node → Type 0
+IsOneTerm {S} has node old new t n = (node new t ≡ n) × ((x : ℕ) → has old x → node old x ≡ n → x ≡ t)
+
 -- a root whose value is told by the world: it has one term
 abbrev pub IsObject : Root → Type 0
 IsObject (roots.Global g) = Unit {0}

@@ -1,4 +1,4 @@
-ghost use Rattle.std.specs.Prelude.{◌≡◌, ◌≢◌, ◌↔◌, ℕ, Bool, true, IfOk, OnOk, OnErr, IsTrue, Some};
+ghost use Rattle.std.specs.Prelude.{◌≡◌, ◌↔◌, ℕ, Bool, true, false, IfOk, OnOk, OnErr, IsTrue, Some};
 ghost use Rattle.word_ops.specs.declared.operation.Op.{Op};
 ghost use Rattle.word_ops.specs.declared.operation.Width.{Width};
 ghost use Rattle.word_ops.specs.Store.{Value, Number, Store};
@@ -14,7 +14,7 @@ ghost use Rattle.term_form.specs.Narrower.{IsNarrower};
 ghost use Rattle.term_form.specs.Walk.{Values};
 ghost use Rattle.domain_laws.specs.declared.chance.Chance.TheVariants.{Possible};
 ghost use Rattle.domain_laws.specs.World.{World, IsWorld, IsOfRoot, with_values, with_store, word_of_term};
-ghost use Rattle.domain_laws.specs.Promises.{Keeps, Narrows, Extends, Adds, Same, Brings, BringsNone, HasNodeAlone, IsObject, IsMadeBy, IsOverScope, Gives, Loads, Changes, Decides, Restores, NodeSays, RecallsWord};
+ghost use Rattle.domain_laws.specs.Promises.{Keeps, Narrows, Extends, Adds, Same, Brings, BringsNone, HasNodeAlone, IsOneTerm, IsObject, IsMadeBy, IsOverScope, Gives, Loads, Changes, Decides, Restores, NodeSays, RecallsWord};
 ghost use Rattle.domain_laws.specs.Widening.{IsWidened};
 
 use crate::chance::Chance;
@@ -60,6 +60,10 @@ pub trait Domain: Drop {
     /// What holds of the node and the facts of a term that may have a truth.
     ghost opens: { Node → Facts → Bool → Type 0 };
 
+    /// Whether an operation is answered by the term in scope of the same operation and operands, where there is one, and by a
+    /// new one of this very operation else.
+    ghost shares: { Bool } = { false };
+
     /// Whether loads are recalled.
     ghost remembers: { Bool };
 
@@ -72,7 +76,7 @@ pub trait Domain: Drop {
         ensures extends { OnOk result (Extends has node_of facts_of marked self.old self.new) }
         ensures adds { OnOk result (Adds light recalls self.old self.new) }
         ensures brings { IfOk result (λ t. Brings has self.old self.new t.0) }
-        ensures node { IfOk result (λ t. (has self.old t.0 → ⊥) → node_of self.new t.0 ≡ nodes.Konst word) }
+        ensures node { IfOk result (λ t. node_of self.new t.0 ≡ nodes.Konst word) }
         ensures alone { IfOk result (λ t. (has self.old t.0 → ⊥) → HasNodeAlone has node_of self.old self.new t.0) }
         ensures value { IfOk result (λ t. Gives stands has self.old self.new t.0 (λ w v. v ≡ Number word)) };
 
@@ -83,6 +87,7 @@ pub trait Domain: Drop {
         ensures adds { OnOk result (Adds light recalls self.old self.new) }
         ensures brings { IfOk result (λ t. Brings has self.old self.new t.0) }
         ensures node { IfOk result (λ t. (has self.old t.0 → ⊥) → node_of self.new t.0 ≡ nodes.Root root) }
+        ensures object { IfOk result (λ t. IsObject root → node_of self.new t.0 ≡ nodes.Root root) }
         ensures alone { IfOk result (λ t. (has self.old t.0 → ⊥) → IsObject root → HasNodeAlone has node_of self.old self.new t.0) }
         ensures value { IfOk result (λ t. Gives stands has self.old self.new t.0 (λ w v. IsOfRoot w root v)) };
 
@@ -96,6 +101,7 @@ pub trait Domain: Drop {
         ensures brings { IfOk result (λ t. Brings has self.old self.new t.0) }
         ensures made { IfOk result (λ t. (has self.old t.0 → ⊥) → IsMadeBy op a b (node_of self.new t.0)) }
         ensures alone { IfOk result (λ t. (has self.old t.0 → ⊥) → HasNodeAlone has node_of self.old self.new t.0) }
+        ensures shared { IfOk result (λ t. shares ≡ true → IsOneTerm has node_of self.old self.new t.0 (nodes.Operate op a b)) }
         ensures fits { IfOk result (λ t. (has self.old t.0 → ⊥) → node_of self.new t.0 ≡ nodes.Operate op a b →
             fits op (node_of self.old a.0) (node_of self.old b.0) (facts_of self.old a.0) (facts_of self.old b.0) (facts_of self.new t.0)) }
         ensures value { IfOk result (λ t. Gives stands has self.old self.new t.0 (λ w v. value_of_operation w.store op (w.values a.0) (w.values b.0) ≡ Some v)) };

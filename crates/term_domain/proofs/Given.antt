@@ -43,9 +43,15 @@ pushed_facts old new node facts t n =
     let p = n.pushed in
     ap (λ t. facts_at new t) e ∙ ap (λ (rows : Rows). facts_at rows (length old)) p.2 ∙ ap facts_in (row_behind old (p.0, facts))
 
-pub shared_node : (old new : Rows) (node : Node) (facts : Facts) (t : ℕ) → IsShared old node facts t new → (t < length old → ⊥) → node_at new t ≡ node
-shared_node old new node facts t (inl f) fresh = absurd (fresh f.within)
-shared_node old new node facts t (inr a) fresh = pushed_node old new node facts t a.fresh
+-- the answered term has the node, and is the one that has it
+pub shared_is : (old new : Rows) (node : Node) (facts : Facts) (t : ℕ) → IsShared old node facts t new → node_at new t ≡ node
+shared_is old new node facts t (inl f) = ap (λ (rows : Rows). node_at rows t) f.same ∙ f.node_is
+shared_is old new node facts t (inr a) = pushed_node old new node facts t a.fresh
+
+pub shared_one : (old new : Rows) (node : Node) (facts : Facts) (t : ℕ) → IsShared old node facts t new → (x : ℕ) → x < length old →
+    node_at old x ≡ node → x ≡ t
+shared_one old new node facts t (inl f) x lt e = f.only x lt e
+shared_one old new node facts t (inr a) x lt e = absurd (a.alone x lt e)
 
 pub shared_alone : (old new : Rows) (node : Node) (facts : Facts) (t : ℕ) → IsShared old node facts t new → (t < length old → ⊥) →
     (x : ℕ) → x < length old → node_at old x ≢ node_at new t

@@ -3,6 +3,9 @@ use Rattle.std.proofs.Common.{rules, ◌≡◌, ◌≢◌, refl, sym, ◌∙◌,
 use Rattle.std.specs.Prelude.{slice_get, IfSome}
 use Rattle.std.specs.Map.{keys_of, lookup}
 use Rattle.std.proofs.lemmas.Map.{NonePasses, lookup-none, none_passes_from_lookup}
+use Rattle.std.specs.List.{IsDistinct}
+use Rattle.std.proofs.lemmas.Bool.{cases_lt}
+use Rattle.std.proofs.lemmas.Map.Keys.{apart_from_distinct}
 use Rattle.std.proofs.lemmas.Map.Entries.{length-keys_of}
 use Rattle.std.proofs.lemmas.List.Quantifiers.{position-Some}
 use Rattle.indexmap.proofs.MapLemmas.{some_index, insert_entry-absent, absent_from_lookup}
@@ -90,6 +93,42 @@ found_node rows key (Some x) e =
     let p = passes_at (key_eq.it key) rows x (sym e) in
     (p.1, ap node_in p.2 ∙ ap (λ k. k.node) (sym (same_key key p.0.0 p.3)))
 
+-- the row of a shared node has its key
+key_is : (rows : Rows) (key : Key) → IsTable rows → ((x : ℕ) → own_place key.node x ≡ None) → key.own ≡ None → (x : ℕ) (row : Key × Facts) →
+    slice_get rows x ≡ Some row → node_at rows x ≡ key.node → key ≡ row.0
+key_is rows key h shared own x row e n =
+    let same : row.0.node ≡ key.node = ap node_in (sym e) ∙ n in
+    let none : row.0.own ≡ None = h.keyed x row e ∙ ap (λ m. own_place m x) same ∙ shared x in
+    same_parts key row.0 (sym same) (own ∙ sym none)
+
+-- two rows with one key are one
+one_place : (rows : Rows) (key : Key) → IsDistinct key_eq.it (keys_of rows) → (x y : ℕ) (row other : Key × Facts) →
+    slice_get rows x ≡ Some row → slice_get rows y ≡ Some other → key ≡ row.0 → key ≡ other.0 → x < y → ⊥
+one_place rows key d x y row other e f k l lt =
+    let within_y : y < length (keys_of rows) = subst (λ n. y < n) (sym (length-keys_of rows)) (within rows y other f) in
+    let apart = apart_from_distinct key_eq.it (keys_of rows) x y key d lt within_y in
+    let first : get_or (keys_of rows) x key ≡ key = key_at rows x key row e ∙ sym k in
+    let second : get_or (keys_of rows) y key ≡ key = key_at rows y key other f ∙ sym l in
+    true≢false (sym (key_self key) ∙ ap (λ a. key_eq.it a key) (sym first) ∙ ap (key_eq.it (get_or (keys_of rows) x key)) (sym second) ∙ apart)
+
+-- what is found for a shared node is the only term of the node
+pub only_node : (rows : Rows) (key : Key) → IsTable rows → IsDistinct key_eq.it (keys_of rows) → ((x : ℕ) → own_place key.node x ≡ None) →
+    key.own ≡ None → (r : Option ℕ) → r ≡ position (key_eq.it key) (keys_of rows) →
+    IfSome r (λ x. (y : ℕ) → y < length rows → node_at rows y ≡ key.node → y ≡ x)
+only_node rows key h d shared own None e = tt
+only_node rows key h d shared own (Some x) e = λ y lt n.
+    let p = passes_at (key_eq.it key) rows x (sym e) in
+    let k = same_key key p.0.0 p.3 in
+    let other = slice_get-there rows y lt in
+    let l = key_is rows key h shared own y other.0 other.1 n in
+    elim (cases_lt x y) [
+      | inl less ↦ absurd (one_place rows key d x y p.0 other.0 p.2 other.1 k l less)
+      | inr le ↦ elim (cases_lt y x) [
+          | inl less ↦ absurd (one_place rows key d y x other.0 p.0 other.1 p.2 l k less)
+          | inr ge ↦ omega (arith, le, ge)
+        ]
+    ]
+
 -- where none is found, no term has the node
 pub no_node : (rows : Rows) (key : Key) → IsTable rows → ((x : ℕ) → own_place key.node x ≡ None) → key.own ≡ None →
     None ≡ position (key_eq.it key) (keys_of rows) → (x : ℕ) → x < length rows → node_at rows x ≢ key.node
@@ -97,9 +136,7 @@ no_node rows key h shared own e x lt n =
     let row = slice_get-there rows x lt in
     let absent : lookup (key_eq.it key) rows ≡ None = is_none (lookup (key_eq.it key) rows) (sym (some_index (key_eq.it key) rows) ∙ ap is_some (sym e)) in
     let fails = none_at (key_eq.it key) rows (none_passes_from_lookup (key_eq.it key) rows absent) x row.0 row.1 in
-    let same : row.0.0.node ≡ key.node = ap node_in (sym row.1) ∙ n in
-    let none : row.0.0.own ≡ None = h.keyed x row.0 row.1 ∙ ap (λ m. own_place m x) same ∙ shared x in
-    let is : key ≡ row.0.0 = same_parts key row.0.0 (sym same) (own ∙ sym none) in
+    let is = key_is rows key h shared own x row.0 row.1 n in
     true≢false (sym (key_self key) ∙ ap (key_eq.it key) is ∙ fails)
 
 -- a key that no row has is put behind all rows
@@ -161,6 +198,14 @@ pub found_in : (rows now : Rows) (key : Key) (node : Node) (r : Option ℕ) → 
 found_in rows now key node r v n e =
     subst (λ (now : Rows). IfSome r (λ x. (x < length now) × (node_at now x ≡ node))) v
     (subst (λ (node : Node). IfSome r (λ x. (x < length rows) × (node_at rows x ≡ node))) n (found_node rows key r e))
+
+pub only_in : (rows now : Rows) (key : Key) (node : Node) (r : Option ℕ) → IsTable rows → IsDistinct key_eq.it (keys_of rows) → rows ≡ now →
+    key.node ≡ node → key.own ≡ own_place node 0 → ((x : ℕ) → own_place node x ≡ None) → r ≡ position (key_eq.it key) (keys_of rows) →
+    IfSome r (λ x. (y : ℕ) → y < length now → node_at now y ≡ node → y ≡ x)
+only_in rows now key node r h d v n o shared e =
+    subst (λ (now : Rows). IfSome r (λ x. (y : ℕ) → y < length now → node_at now y ≡ node → y ≡ x)) v
+    (subst (λ (node : Node). IfSome r (λ x. (y : ℕ) → y < length rows → node_at rows y ≡ node → y ≡ x)) n
+      (only_node rows key h d (λ x. ap (λ m. own_place m x) n ∙ shared x) (o ∙ shared 0) r e))
 
 pub none_in : (rows now : Rows) (key : Key) (node : Node) (r : Option ℕ) → IsTable rows → rows ≡ now → key.node ≡ node →
     key.own ≡ own_place node 0 → ((x : ℕ) → own_place node x ≡ None) → r ≡ position (key_eq.it key) (keys_of rows) →

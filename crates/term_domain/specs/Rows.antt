@@ -45,6 +45,7 @@ IsPushed old node facts new = (key : Key) × (key.node ≡ node) × (new ≡ old
 pub record IsFound (old : Rows) (node : Node) (t : ℕ) (new : Rows) : Type 0 where
   pub within : t < length old
   pub node_is : node_at old t ≡ node
+  pub only : (x : ℕ) → x < length old → node_at old x ≡ node → x ≡ t
   pub same : new ≡ old
 
 -- a new term

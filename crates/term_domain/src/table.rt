@@ -47,6 +47,7 @@ impl Table {
     pub fn find(&self, node: Node) -> Option<usize>
         requires { (x : ℕ) → own_place node x ≡ None }
         ensures found { IfSome result (λ x. (x < length self.now) × (node_at self.now x ≡ node)) }
+        ensures only { IfSome result (λ x. (y : ℕ) → y < length self.now → node_at self.now y ≡ node → y ≡ x) }
         ensures none { result ≡ None → (x : ℕ) → x < length self.now → node_at self.now x ≢ node }
     {
         self.rows.get_index_of(&key_of(node, 0))

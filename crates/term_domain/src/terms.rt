@@ -1,4 +1,4 @@
-ghost use Rattle.std.specs.Prelude.{◌≡◌, ◌≢◌, ℕ, ◌<◌, length, IfOk, OnErr, false, None};
+ghost use Rattle.std.specs.Prelude.{◌≡◌, ◌≢◌, ℕ, ◌<◌, length, IfOk, OnErr, true, false, None};
 ghost use Rattle.word_ops.specs.Changes.{SameRegions};
 ghost use Rattle.term_form.specs.declared.term.Node.TheVariants as nodes;
 ghost use Rattle.term_form.specs.Narrower.{only_word, any_word};
@@ -105,6 +105,8 @@ impl Domain for Terms {
     ghost fits = { λ op j k f g h. Unit {0} };
 
     ghost opens = { λ j f holds. MayHave j holds };
+
+    ghost shares = { true };
 
     ghost remembers = { false };
 

@@ -5,7 +5,7 @@ use Rattle.term_form.specs.declared.term.Node.{Node}
 use Rattle.term_form.specs.declared.term.Node.TheVariants.{Operate}
 use Rattle.domain_laws.specs.Promises.{IsMadeBy}
 use Rattle.term_domain.proofs.Kept.{grown_extends, grown_shared, same_state, on_ok}
-use Rattle.term_domain.proofs.Given.{gives_shared, shared_node, shared_alone, operation_may, same_Some}
+use Rattle.term_domain.proofs.Given.{gives_shared, shared_is, shared_one, shared_alone, operation_may, same_Some}
 use Rattle.term_domain.proofs.terms.TermsDomain.operate.Goals as goal
 
 pub returns-clause-same : goal.returns-clause-same
@@ -17,7 +17,7 @@ returns-clause-extends c = on_ok c.share.result (λ t s. grown_extends c.args.se
 pub returns-clause-made : goal.returns-clause-made
 returns-clause-made c =
     IfOk-weaker c.share.result _ _
-    (λ t s fresh. subst (λ (n : Node). IsMadeBy c.args.op c.args.a c.args.b n) (sym (shared_node _ _ _ _ t.0 s fresh)) refl)
+    (λ t s fresh. subst (λ (n : Node). IsMadeBy c.args.op c.args.a c.args.b n) (sym (shared_is _ _ _ _ t.0 s)) refl)
     c.share.ensures.ok
 
 pub returns-clause-alone : goal.returns-clause-alone
@@ -31,3 +31,7 @@ returns-clause-value c =
       (operation_may c.args.self.now.table c.args.op c.args.a c.args.b c.anything.result c.requires.first c.requires.second c.anything.ensures.is)
       (λ w u v h k. same_Some u v (sym h ∙ k)))
     c.share.ensures.ok
+
+pub returns-clause-shared : goal.returns-clause-shared
+returns-clause-shared c =
+    IfOk-weaker c.share.result _ _ (λ t s is. (shared_is _ _ _ _ t.0 s, λ x lt e. shared_one _ _ _ _ t.0 s x lt e)) c.share.ensures.ok
