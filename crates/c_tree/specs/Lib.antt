@@ -1,2 +1,4 @@
 pub mod TypedKinds
 pub mod TypedUnits
+pub mod TypedLists
+pub mod TypedStatementLists
