@@ -12,7 +12,7 @@ use Rattle.c_tree.specs.declared.typed.expression.Step.TheBlock.{hidden-the_row-
 use Rattle.c_tree.specs.declared.typed.expression.Arm.{Arm}
 use Rattle.c_tree.specs.declared.typed.expression.Target.{Target}
 use Rattle.c_tree.specs.declared.typed.expression.Target.TheVariants as target
-use Rattle.c_tree.specs.TypedKinds.{Kind, Void, Holds, Signature, Names, word, IsScalar, IsInteger, ArithmeticGives, Changes, UnaryGives, ResultIs, IsOfKind, StepsGive, AreScalar, AreDropped, AreArguments, ArmsGive, TargetsGive}
+use Rattle.c_tree.specs.TypedKinds.{Kind, Void, Holds, Signature, Names, IsScalarAt, word, IsScalar, IsInteger, ArithmeticGives, Changes, UnaryGives, ResultIs, IsOfKind, StepsGive, AreScalar, AreDropped, AreArguments, ArmsGive, TargetsGive}
 
 -- ---- the same over lists
 
@@ -50,7 +50,7 @@ ArmsLead c (a ∷ rest) g =
 abbrev pub TargetsLead : Names → List Target → Kind → Kind → Type 0
 TargetsLead c [] j g = g ≡ j
 TargetsLead c (target.Variable i h ∷ rest) j g =
-    (k : Kind) × TargetsLead c rest j k × (slice_get c.objects i ≡ Some (Some h.scalar)) × Changes h k × (g ≡ Holds h.scalar)
+    (k : Kind) × TargetsLead c rest j k × IsScalarAt c i h.scalar × Changes h k × (g ≡ Holds h.scalar)
 TargetsLead c (target.Place a h ∷ rest) j g =
     (k : Kind) × TargetsLead c rest j k × IsOfKind c a (Holds scalar.Pointer) × Changes h k × (g ≡ Holds h.scalar)
 
@@ -89,7 +89,7 @@ arms-row c n (more_of-Arm a b rest) g =
 targets-row : (c : Names) (n : _) (r : Row_of-Target n) → TargetsGive c r ≡ TargetsLead c (items-the_row-Target n r)
 targets-row c n end_of-Target = refl
 targets-row c n (more_of-Target (target.Variable i h) rest) =
-    ap {B = Kind → Kind → Type 0} (λ (T : Kind → Kind → Type 0) j g. (k : Kind) × T j k × (slice_get c.objects i ≡ Some (Some h.scalar)) × Changes h k × (g ≡ Holds h.scalar)) (targets-row c _ rest)
+    ap {B = Kind → Kind → Type 0} (λ (T : Kind → Kind → Type 0) j g. (k : Kind) × T j k × IsScalarAt c i h.scalar × Changes h k × (g ≡ Holds h.scalar)) (targets-row c _ rest)
 targets-row c n (more_of-Target (target.Place a h) rest) =
     ap {B = Kind → Kind → Type 0} (λ (T : Kind → Kind → Type 0) j g. (k : Kind) × T j k × IsOfKind c a (Holds scalar.Pointer) × Changes h k × (g ≡ Holds h.scalar)) (targets-row c _ rest)
 
