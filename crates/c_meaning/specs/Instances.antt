@@ -6,7 +6,7 @@ use Rattle.word_ops.specs.declared.operation.Width.TheVariants as width
 use Rattle.c_tree.specs.declared.typed.operator.Scalar.TheVariants as scalar
 use Rattle.c_tree.specs.declared.typed.unit.TFunction.{TFunction}
 use Rattle.c_tree.specs.TypedKinds.{Void, word}
-use Rattle.c_tree.specs.TypedUnits.{signature_of, IsFunction, IsUnit}
+use Rattle.c_tree.specs.TypedUnits.{kept_as, signature_of, IsFunction, IsUnit}
 use Rattle.c_tree.specs.TypedUnits.{IsObject}
 use Rattle.c_meaning.specs.Examples.Trees.{computed, an_int, num, do_call, return, main_of}
 use Rattle.c_meaning.specs.Examples.Runs.{descends, descent, sum, sum_main}
@@ -18,7 +18,7 @@ an_int_is_object = ((omega arith, omega arith), (refl, refl))
 descends_is_function : IsFunction (descent 2) descends
 unfolding computed
 descends_is_function =
-    ((scalar.Integer width.Word, refl, an_int_is_object, tt), ((tt, tt), ((((word, (refl, refl), tt), (signature_of descends, refl, ((word, (refl, refl), (word, (omega arith, refl), word, (tt, tt, refl), refl)), tt), refl), tt), ((tt, tt), tt)), tt)))
+    ((scalar.Integer width.Word, refl, an_int_is_object, tt), ((tt, tt), ((((word, ((kept_as an_int, refl, refl), refl), tt), (signature_of descends, refl, ((word, ((kept_as an_int, refl, refl), refl), (word, (omega arith, refl), word, (tt, tt, refl), refl)), tt), refl), tt), ((tt, tt), tt)), tt)))
 
 -- int main(void){f(2);return 0;}
 main_is_function : IsFunction (descent 2) (main_of [] (do_call 0 (num 2 ∷ []) ∷ return (num 0) ∷ []))
@@ -40,7 +40,7 @@ descent_hangs_together =
 sum_is_function : IsFunction sum sum_main
 unfolding computed
 sum_is_function =
-    (tt, ((refl, (an_int_is_object, (an_int_is_object, tt))), ((Some (scalar.Integer width.Word), refl, (refl, (omega arith, refl))), ((word, (word, (omega arith, refl), (word, refl, refl, (tt, refl), refl)), (Void, refl, refl)), (((word, (word, (refl, refl), (word, (omega arith, refl), word, (tt, tt, refl), refl)), tt), (word, (refl, (word, (tt, tt, refl), (tt, refl)), refl), (Void, refl, refl)), (word, (word, (word, (refl, refl), (word, (refl, refl), word, (tt, tt, refl), refl)), (word, refl, refl, (tt, refl), refl)), (Void, refl, refl))), ((refl, refl), tt))))))
+    (tt, ((refl, (an_int_is_object, (an_int_is_object, tt))), ((kept_as an_int, refl, (refl, (omega arith, refl))), ((word, (word, (omega arith, refl), (word, refl, (kept_as an_int, refl, refl), (tt, refl), refl)), (Void, refl, refl)), (((word, (word, ((kept_as an_int, refl, refl), refl), (word, (omega arith, refl), word, (tt, tt, refl), refl)), tt), (word, ((kept_as an_int, refl, refl), (word, (tt, tt, refl), (tt, refl)), refl), (Void, refl, refl)), (word, (word, (word, ((kept_as an_int, refl, refl), refl), (word, ((kept_as an_int, refl, refl), refl), word, (tt, tt, refl), refl)), (word, refl, (kept_as an_int, refl, refl), (tt, refl), refl)), (Void, refl, refl))), (((kept_as an_int, refl, refl), refl), tt))))))
 
 sum_functions : (i : ℕ) (f : TFunction) → slice_get sum.functions i ≡ Some f → IsFunction sum f
 sum_functions zero f e = subst (IsFunction sum) (same_Some sum_main f e) sum_is_function

@@ -6,3 +6,5 @@ pub mod Levelled
 pub mod TypedKinds
 pub mod TypedUnits
 pub mod Examples
+pub mod TypedLists
+pub mod TypedStatementLists

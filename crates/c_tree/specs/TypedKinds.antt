@@ -1,6 +1,6 @@
 -- What kind of value a typed expression gives: what hangs together in it, seen without its C types. Typing makes such trees
 -- alone, lowering takes such trees alone, and the value of one is always of its kind (a law of the meaning).
-use Rattle.std.specs.Prelude.{◌≡◌, ℕ, ◌^◌, ◌<◌, ◌≤◌, List, [], ◌∷◌, length, Option, Some, None, slice_get}
+use Rattle.std.specs.Prelude.{◌≡◌, ℕ, ◌^◌, ◌<◌, ◌≤◌, List, [], ◌∷◌, Option, Some, None, slice_get, Bool, false, not}
 use Rattle.word_ops.specs.declared.operation.Width.{Width}
 use Rattle.word_ops.specs.declared.operation.Width.TheVariants as width
 use Rattle.c_tree.specs.declared.typed.operator.Scalar.{Scalar}
@@ -30,12 +30,33 @@ pub record Signature : Type 0 where
   pub parameters : List (Option Scalar)
   pub result : Option Scalar
 
+-- how an automatic object is kept: as a value of scalar type, or as an aggregate; and whether `&` is applied to it
+pub record Kept : Type 0 where
+  pub scalar : Option Scalar
+  pub addressed : Bool
+
+-- an object that only its name leads to, so that no pointer ever does
+abbrev pub is_variable_if : Option Scalar → (addressed : Bool) → Bool
+is_variable_if None b = false
+is_variable_if (Some k) b = not b
+
+abbrev pub is_variable : Kept → Bool
+is_variable h = is_variable_if h.scalar h.addressed
+
 -- what the names in an expression stand for: how many static objects there are, the functions, and how the automatic objects in
 -- scope are kept, by their places
 pub record Names : Type 0 where
   pub statics : ℕ
   pub functions : List Signature
-  pub objects : List (Option Scalar)
+  pub objects : List Kept
+
+-- at a place in scope there is an object of this scalar type
+abbrev pub IsScalarAt : Names → ℕ → Scalar → Type 0
+IsScalarAt c i k = (h : Kept) × (slice_get c.objects i ≡ Some h) × (h.scalar ≡ Some k)
+
+-- at a place in scope there is an object that has an address
+abbrev pub IsMemoryAt : Names → ℕ → Type 0
+IsMemoryAt c i = (h : Kept) × (slice_get c.objects i ≡ Some h) × (is_variable h ≡ false)
 
 -- how many bytes an object of scalar type has, and how they are read
 abbrev pub width_of : Scalar → Width
@@ -108,11 +129,11 @@ UnaryGives unary.Drop j g = g ≡ Void
 abbrev pub PrimaryGives : Names → Primary → Kind → Type 0
 PrimaryGives c (primary.Number n) g = (n < 2 ^ 32) × (g ≡ word)
 PrimaryGives c primary.Null g = g ≡ Holds scalar.Pointer
-PrimaryGives c (primary.Variable k i) g = (slice_get c.objects i ≡ Some (Some k)) × (g ≡ Holds k)
-PrimaryGives c (primary.Address i) g = (i < length c.objects) × (g ≡ Holds scalar.Pointer)
+PrimaryGives c (primary.Variable k i) g = IsScalarAt c i k × (g ≡ Holds k)
+PrimaryGives c (primary.Address i) g = IsMemoryAt c i × (g ≡ Holds scalar.Pointer)
 PrimaryGives c (primary.Static i) g = (i < c.statics) × (g ≡ Holds scalar.Pointer)
 PrimaryGives c (primary.Increment i h) g =
-    (slice_get c.objects i ≡ Some (Some h.scalar)) × Increments h × (g ≡ Holds h.scalar)
+    IsScalarAt c i h.scalar × Increments h × (g ≡ Holds h.scalar)
 
 -- the value of a function is of this kind
 abbrev pub ResultIs : Option Scalar → Kind → Type 0
@@ -178,6 +199,6 @@ abbrev mutual
   pub TargetsGive : Names → {n : _} → Row_of-Target n → Kind → Kind → Type 0
   TargetsGive c end_of-Target j g = g ≡ j
   TargetsGive c (more_of-Target (target.Variable i h) rest) j g =
-      (k : Kind) × TargetsGive c rest j k × (slice_get c.objects i ≡ Some (Some h.scalar)) × Changes h k × (g ≡ Holds h.scalar)
+      (k : Kind) × TargetsGive c rest j k × IsScalarAt c i h.scalar × Changes h k × (g ≡ Holds h.scalar)
   TargetsGive c (more_of-Target (target.Place a h) rest) j g =
       (k : Kind) × TargetsGive c rest j k × IsOfKind c a (Holds scalar.Pointer) × Changes h k × (g ≡ Holds h.scalar)

@@ -18,7 +18,7 @@ use Rattle.c_tree.specs.declared.typed.unit.StaticPart.TheVariants as part
 use Rattle.c_tree.specs.declared.typed.unit.StaticObject.{StaticObject}
 use Rattle.c_tree.specs.declared.typed.unit.TFunction.{TFunction}
 use Rattle.c_tree.specs.declared.typed.unit.Typed.{Typed}
-use Rattle.c_tree.specs.TypedKinds.{Kind, Void, Holds, Signature, Names, width_of, IsSize, IsScalar, IsInteger, IsOfKind}
+use Rattle.c_tree.specs.TypedKinds.{Kind, Void, Holds, Signature, Kept, Names, width_of, IsSize, IsScalar, IsInteger, IsOfKind}
 
 -- ---- objects
 
@@ -43,15 +43,18 @@ AreParameters (o ∷ os) = (k : Scalar) × (o.scalar ≡ Some k) × IsObject o �
 -- ---- names
 
 -- how an object is kept
-abbrev pub kept_as : Object → Option Scalar
-kept_as o = o.scalar
+abbrev pub kept_as : Object → Kept
+kept_as o = record { scalar = o.scalar; addressed = o.addressed }
+
+abbrev pub scalar_of : Object → Option Scalar
+scalar_of o = o.scalar
 
 -- what names stand for in a block that declares objects
 abbrev pub with_declared : Names → List Object → Names
 with_declared c os = record { statics = c.statics; functions = c.functions; objects = c.objects ++ map kept_as os }
 
 abbrev pub signature_of : TFunction → Signature
-signature_of f = record { parameters = map kept_as f.parameters; result = f.scalar }
+signature_of f = record { parameters = map scalar_of f.parameters; result = f.scalar }
 
 -- what names stand for in a function
 abbrev pub names_in : Typed → TFunction → Names
@@ -145,7 +148,7 @@ abbrev mutual
   pub IsStatement : Names → Jumps → (declared : ℕ) → TStmt → Type 0
   IsStatement c j n (s.Evaluate e) = IsOfKind c e Void
   IsStatement c j n (s.Initialise i v) =
-      (k : Option Scalar) × (slice_get c.objects i ≡ Some k) × IsInitialOf c k v
+      (h : Kept) × (slice_get c.objects i ≡ Some h) × IsInitialOf c h.scalar v
   IsStatement c j n (s.Block' b m all) =
       IsDeclaring n b × AreStatements (with_declared c b.list) j (n + length b.list) all
   IsStatement c j n (s.If' m branches p (more_of-TStmt a end_of-TStmt)) =

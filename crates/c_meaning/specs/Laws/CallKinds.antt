@@ -6,7 +6,7 @@ use Rattle.std.specs.Option.{option_map}
 use Rattle.word_ops.specs.declared.operation.Width.TheVariants as width
 use Rattle.word_ops.specs.Store.{Number, Pointer, Byte, Store, end_regions, refill_region}
 use Rattle.word_ops.specs.Access.{put_cells, initialise}
-use Rattle.word_ops.specs.Run.{Outside, Run, Gives, then_do, given, branch, Turn}
+use Rattle.word_ops.specs.Run.{Outside, Run, Gives, given, branch, Turn}
 use Rattle.c_tree.specs.declared.typed.operator.Scalar.{Scalar}
 use Rattle.c_tree.specs.declared.typed.operator.Scalar.TheVariants as scalar
 use Rattle.c_tree.specs.declared.typed.expression.TExpr.{TExpr}

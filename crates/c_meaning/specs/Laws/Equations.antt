@@ -1,9 +1,8 @@
 -- What each form means, over plain lists of its operands: the definitions go by the rows in which a tree keeps its lists, and
 -- proofs about code go by lists.
-use Rattle.std.proofs.Common.{◌≡◌, refl, sym, ap, ◌∙◌, ℕ, zero, suc, List, [], ◌∷◌}
-use Rattle.std.specs.Prelude.{Option, Some, None}
+use Rattle.std.proofs.Common.{◌≡◌, refl, ap, ◌∙◌, ℕ, List, [], ◌∷◌}
 use Rattle.word_ops.specs.Store.{Value, Number, Store}
-use Rattle.word_ops.specs.Run.{Outside, Run, Gives, then_do, given, branch}
+use Rattle.word_ops.specs.Run.{Outside, Run, Gives, then_do, given}
 use Rattle.c_tree.specs.declared.typed.types.CType.{CType}
 use Rattle.c_tree.specs.declared.typed.expression.TExpr.{TExpr, Row_of-TExpr, end_of-TExpr, more_of-TExpr, Row_of-Step, end_of-Step, more_of-Step, Row_of-Arm, end_of-Arm, more_of-Arm, Row_of-Target, end_of-Target, more_of-Target, items-the_row-TExpr, items_hidden-the_row-TExpr-2, items-the_row-Step, items_hidden-the_row-Step-1, items-the_row-Arm, items_hidden-the_row-Arm-3, items-the_row-Target, items_hidden-the_row-Target-4}
 use Rattle.c_tree.specs.declared.typed.expression.TExpr.TheVariants as x
