@@ -5,8 +5,8 @@ use crate::tests::trees::{
 };
 use crate::{
     Declarator, DeclaratorSuffix, Direct, Enumerator, External, InitDeclarator,
-    Initialiser, InitialiserItem, Member, MemberDeclarator, Pointer, Specifier, Start, Storage,
-    TypeWord,
+    Initialiser, InitialiserItem, Member, MemberDeclarator, Parameter, Pointer, Specifier, Start,
+    Storage, TypeWord,
 };
 use std::alloc::Global;
 use std::test::Fail;
@@ -18,88 +18,120 @@ extern struct pair p ; static enum { red , green = 2 , } colour ; enum colour e 
 int table [ ] = { 1 , { 2 , 3 , } } ; int ( * f ) ( ) ; \
 auto short g ( int ( * ) [ 2 ] , pair ) ; register long signed char _Bool ;";
 
-fn plain(alloc: Global, declarator: Declarator) -> Result<Items<InitDeclarator>, Fail> {
-    items(
-        alloc,
-        [InitDeclarator {
-            comma: None,
-            declarator,
-            start: None,
-        }],
-    )
+fn plain(declarator: Declarator) -> InitDeclarator {
+    InitDeclarator {
+        comma: None,
+        declarator,
+        start: None,
+    }
 }
 
 fn external(alloc: Global, specifiers: Items<Specifier>, declarator: Declarator) -> Result<External, Fail> {
-    Ok(External::Declaration(declaration(specifiers, plain(alloc, declarator)?)))
+    let list = items(alloc, [plain(declarator)])?;
+    Ok(External::Declaration(declaration(specifiers, list)))
+}
+
+fn named(alloc: Global, specifiers: Items<Specifier>, text: &str) -> Result<External, Fail> {
+    external(alloc, specifiers, declarator(alloc, text, Items::new(alloc))?)
+}
+
+fn stored(alloc: Global, storage: Storage, specifier: Specifier) -> Result<Items<Specifier>, Fail> {
+    items(alloc, [Specifier::Storage(storage, HERE), specifier])
 }
 
 fn array_of(alloc: Global, size: u32) -> Result<Items<DeclaratorSuffix>, Fail> {
     items(alloc, [DeclaratorSuffix::ArrayOf(HERE, int(size), HERE)])
 }
 
-// `const int * const a , b [ 3 ] ;`
-fn member(alloc: Global) -> Result<Member, Fail> {
-    let pointer = Pointer {
-        star: HERE,
-        constants: items(alloc, [HERE])?,
-    };
-    let a = Declarator {
-        pointers: items(alloc, [pointer])?,
-        direct: Direct::Named(identifier(alloc, "a")?),
-        suffixes: Items::new(alloc),
-    };
-    let first = MemberDeclarator {
+// `* const`
+fn constant_pointer(alloc: Global) -> Result<Items<Pointer>, Fail> {
+    let constants = items(alloc, [HERE])?;
+    items(alloc, [Pointer { star: HERE, constants }])
+}
+
+// `* const a`
+fn constant(alloc: Global) -> Result<MemberDeclarator, Fail> {
+    let pointers = constant_pointer(alloc)?;
+    let direct = Direct::Named(identifier(alloc, "a")?);
+    Ok(MemberDeclarator {
         comma: None,
-        declarator: a,
-    };
-    let second = MemberDeclarator {
+        declarator: Declarator {
+            pointers,
+            direct,
+            suffixes: Items::new(alloc),
+        },
+    })
+}
+
+// `, b [ 3 ]`
+fn array(alloc: Global) -> Result<MemberDeclarator, Fail> {
+    Ok(MemberDeclarator {
         comma: Some(HERE),
         declarator: declarator(alloc, "b", array_of(alloc, 3)?)?,
-    };
+    })
+}
+
+fn member_names(alloc: Global, out: &mut Items<MemberDeclarator>) -> Result<(), Fail> {
+    out.push(constant(alloc)?)?;
+    out.push(array(alloc)?)?;
+    Ok(())
+}
+
+// `const int * const a , b [ 3 ] ;`
+fn member(alloc: Global) -> Result<Member, Fail> {
+    let mut declarators = Items::new(alloc);
+    member_names(alloc, &mut declarators)?;
     let specifiers = [Specifier::Const(HERE), Specifier::Word(TypeWord::Int, HERE)];
     Ok(Member {
         specifiers: items(alloc, specifiers)?,
-        declarators: items(alloc, [first, second])?,
+        declarators,
         semicolon: HERE,
     })
 }
 
-fn pair(alloc: Global) -> Result<External, Fail> {
-    let body = Specifier::Struct {
+fn pair_body(alloc: Global) -> Result<Specifier, Fail> {
+    let members = items(alloc, [member(alloc)?])?;
+    Ok(Specifier::Struct {
         word: HERE,
         tag: Some(identifier(alloc, "pair")?),
         opening: HERE,
-        members: items(alloc, [member(alloc)?])?,
+        members,
         closing: HERE,
-    };
-    let specifiers = items(alloc, [Specifier::Storage(Storage::Typedef, HERE), body])?;
-    external(alloc, specifiers, declarator(alloc, "pair", Items::new(alloc))?)
+    })
+}
+
+fn pair(alloc: Global) -> Result<External, Fail> {
+    named(alloc, stored(alloc, Storage::Typedef, pair_body(alloc)?)?, "pair")
 }
 
 fn tagged(alloc: Global) -> Result<External, Fail> {
     let tag = Specifier::StructTag(HERE, identifier(alloc, "pair")?);
-    let specifiers = items(alloc, [Specifier::Storage(Storage::Extern, HERE), tag])?;
-    external(alloc, specifiers, declarator(alloc, "p", Items::new(alloc))?)
+    named(alloc, stored(alloc, Storage::Extern, tag)?, "p")
+}
+
+fn colour_names(alloc: Global, out: &mut Items<Enumerator>) -> Result<(), Fail> {
+    out.push(Enumerator::Plain(None, identifier(alloc, "red")?))?;
+    out.push(Enumerator::Valued(Some(HERE), identifier(alloc, "green")?, HERE, int(2)))?;
+    Ok(())
 }
 
 fn colours(alloc: Global) -> Result<External, Fail> {
-    let red = Enumerator::Plain(None, identifier(alloc, "red")?);
-    let green = Enumerator::Valued(Some(HERE), identifier(alloc, "green")?, HERE, int(2));
+    let mut enumerators = Items::new(alloc);
+    colour_names(alloc, &mut enumerators)?;
     let body = Specifier::Enum {
         word: HERE,
         tag: None,
         opening: HERE,
-        enumerators: items(alloc, [red, green])?,
+        enumerators,
         comma: Some(HERE),
         closing: HERE,
     };
-    let specifiers = items(alloc, [Specifier::Storage(Storage::Static, HERE), body])?;
-    external(alloc, specifiers, declarator(alloc, "colour", Items::new(alloc))?)
+    named(alloc, stored(alloc, Storage::Static, body)?, "colour")
 }
 
 fn colour(alloc: Global) -> Result<External, Fail> {
     let tag = Specifier::EnumTag(HERE, identifier(alloc, "colour")?);
-    external(alloc, items(alloc, [tag])?, declarator(alloc, "e", Items::new(alloc))?)
+    named(alloc, items(alloc, [tag])?, "e")
 }
 
 fn item(first: bool, value: Initialiser) -> InitialiserItem {
@@ -109,87 +141,116 @@ fn item(first: bool, value: Initialiser) -> InitialiserItem {
     }
 }
 
-fn table(alloc: Global) -> Result<External, Fail> {
-    let inner = Initialiser::List {
+fn number(first: bool, value: u32) -> InitialiserItem {
+    item(first, Initialiser::Expression(int(value)))
+}
+
+// `{ 2 , 3 , }`
+fn inner_list(alloc: Global) -> Result<Initialiser, Fail> {
+    Ok(Initialiser::List {
         opening: HERE,
-        items: items(
-            alloc,
-            [
-                item(true, Initialiser::Expression(int(2))),
-                item(false, Initialiser::Expression(int(3))),
-            ],
-        )?,
+        items: items(alloc, [number(true, 2), number(false, 3)])?,
         comma: Some(HERE),
         closing: HERE,
-    };
-    let value = Initialiser::List {
+    })
+}
+
+// `{ 1 , { 2 , 3 , } }`
+fn list(alloc: Global) -> Result<Initialiser, Fail> {
+    let inner = item(false, inner_list(alloc)?);
+    Ok(Initialiser::List {
         opening: HERE,
-        items: items(alloc, [item(true, Initialiser::Expression(int(1))), item(false, inner)])?,
+        items: items(alloc, [number(true, 1), inner])?,
         comma: None,
         closing: HERE,
-    };
+    })
+}
+
+fn table_declarator(alloc: Global) -> Result<Declarator, Fail> {
     let suffixes = items(alloc, [DeclaratorSuffix::Array(HERE, HERE)])?;
+    declarator(alloc, "table", suffixes)
+}
+
+fn table(alloc: Global) -> Result<External, Fail> {
+    let value = list(alloc)?;
     let one = InitDeclarator {
         comma: None,
-        declarator: declarator(alloc, "table", suffixes)?,
+        declarator: table_declarator(alloc)?,
         start: Some(Start { equals: HERE, value }),
     };
-    let all = declaration(words(alloc, [TypeWord::Int])?, items(alloc, [one])?);
+    let declarators = items(alloc, [one])?;
+    let all = declaration(words(alloc, [TypeWord::Int])?, declarators);
     Ok(External::Declaration(all))
 }
 
+fn pointing(alloc: Global, direct: Direct) -> Result<Declarator, Fail> {
+    Ok(Declarator {
+        pointers: items(alloc, [star(alloc)])?,
+        direct,
+        suffixes: Items::new(alloc),
+    })
+}
+
 fn grouped(alloc: Global, inner: Declarator, suffix: DeclaratorSuffix) -> Result<Declarator, Fail> {
+    let direct = Direct::Grouped(HERE, Boxed::new(alloc, inner)?, HERE);
     Ok(Declarator {
         pointers: Items::new(alloc),
-        direct: Direct::Grouped(HERE, Boxed::new(alloc, inner)?, HERE),
+        direct,
         suffixes: items(alloc, [suffix])?,
     })
 }
 
 // `int ( * f ) ( ) ;`
 fn pointer_to_function(alloc: Global) -> Result<External, Fail> {
-    let inner = Declarator {
-        pointers: items(alloc, [star(alloc)])?,
-        direct: Direct::Named(identifier(alloc, "f")?),
-        suffixes: Items::new(alloc),
-    };
+    let inner = pointing(alloc, Direct::Named(identifier(alloc, "f")?))?;
     let f = grouped(alloc, inner, DeclaratorSuffix::Empty(HERE, HERE))?;
     external(alloc, words(alloc, [TypeWord::Int])?, f)
 }
 
+// `int ( * ) [ 2 ]`
+fn array_parameter(alloc: Global) -> Result<Parameter, Fail> {
+    let inner = pointing(alloc, Direct::Nothing)?;
+    let array = grouped(alloc, inner, DeclaratorSuffix::ArrayOf(HERE, int(2), HERE))?;
+    Ok(parameter(true, words(alloc, [TypeWord::Int])?, array))
+}
+
+// `, pair`
+fn pair_parameter(alloc: Global) -> Result<Parameter, Fail> {
+    let typedef = Specifier::TypedefName(identifier(alloc, "pair")?);
+    Ok(parameter(false, items(alloc, [typedef])?, nothing(alloc)))
+}
+
+fn two_parameters(alloc: Global, out: &mut Items<Parameter>) -> Result<(), Fail> {
+    out.push(array_parameter(alloc)?)?;
+    out.push(pair_parameter(alloc)?)?;
+    Ok(())
+}
+
 // `auto short g ( int ( * ) [ 2 ] , pair ) ;`
 fn with_parameters(alloc: Global) -> Result<External, Fail> {
-    let inner = Declarator {
-        pointers: items(alloc, [star(alloc)])?,
-        direct: Direct::Nothing,
-        suffixes: Items::new(alloc),
-    };
-    let array = grouped(alloc, inner, DeclaratorSuffix::ArrayOf(HERE, int(2), HERE))?;
-    let first = parameter(true, words(alloc, [TypeWord::Int])?, array);
-    let typedef = Specifier::TypedefName(identifier(alloc, "pair")?);
-    let second = parameter(false, items(alloc, [typedef])?, nothing(alloc));
-    let list = DeclaratorSuffix::Parameters(HERE, items(alloc, [first, second])?, HERE);
-    let specifiers = [
-        Specifier::Storage(Storage::Auto, HERE),
-        Specifier::Word(TypeWord::Short, HERE),
-    ];
-    let g = declarator(alloc, "g", items(alloc, [list])?)?;
-    external(alloc, items(alloc, specifiers)?, g)
+    let mut parameters = Items::new(alloc);
+    two_parameters(alloc, &mut parameters)?;
+    let list = items(alloc, [DeclaratorSuffix::Parameters(HERE, parameters, HERE)])?;
+    let g = declarator(alloc, "g", list)?;
+    let short = Specifier::Word(TypeWord::Short, HERE);
+    external(alloc, stored(alloc, Storage::Auto, short)?, g)
 }
 
 // `register long signed char _Bool ;`
 fn words_alone(alloc: Global) -> Result<External, Fail> {
-    let mut all = items(alloc, [Specifier::Storage(Storage::Register, HERE)])?;
-    let more = [TypeWord::Long, TypeWord::Signed, TypeWord::Char, TypeWord::Bool];
-    all.append(words(alloc, more)?)?;
+    let mut all = stored(alloc, Storage::Register, Specifier::Word(TypeWord::Long, HERE))?;
+    all.append(words(alloc, [TypeWord::Signed, TypeWord::Char, TypeWord::Bool])?)?;
     Ok(External::Declaration(declaration(all, Items::new(alloc))))
 }
 
-pub fn declarations(alloc: Global) -> Result<Items<External>, Fail> {
-    let mut all = items(alloc, [pair(alloc)?, tagged(alloc)?, colours(alloc)?, colour(alloc)?])?;
-    all.push(table(alloc)?)?;
-    all.push(pointer_to_function(alloc)?)?;
-    all.push(with_parameters(alloc)?)?;
-    all.push(words_alone(alloc)?)?;
-    Ok(all)
+pub fn declarations(alloc: Global, out: &mut Items<External>) -> Result<(), Fail> {
+    out.push(pair(alloc)?)?;
+    out.push(tagged(alloc)?)?;
+    out.push(colours(alloc)?)?;
+    out.push(colour(alloc)?)?;
+    out.push(table(alloc)?)?;
+    out.push(pointer_to_function(alloc)?)?;
+    out.push(with_parameters(alloc)?)?;
+    out.push(words_alone(alloc)?)?;
+    Ok(())
 }

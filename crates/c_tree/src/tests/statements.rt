@@ -19,43 +19,75 @@ sizeof ( int ) ? ( pair * ) x : sizeof ~ y ; \"ab\" \"c\" ; 7ul == 8l << 'a' ; ;
 do continue ; while ( x ) ; for ( ; ; ) { } for ( int i = 0 ; i < 3 ; i += 1 ) break ; \
 for ( i ; ; ) ; switch ( x ) { case 1 : default : return ; } if ( x ) ; else ; }";
 
-// `f ( x , y ) . b -> c --`
-fn suffixes(alloc: Global) -> Result<Items<Suffix>, Fail> {
+// `( x , y )`
+fn arguments(alloc: Global) -> Result<Suffix, Fail> {
     let second = items(alloc, [next(Punct::Comma, name(alloc, "y")?)])?;
-    let called = Suffix::CallWith(HERE, name(alloc, "x")?, second, HERE);
-    let member = Suffix::Member(HERE, identifier(alloc, "b")?);
-    let arrow = Suffix::Arrow(HERE, identifier(alloc, "c")?);
-    items(alloc, [called, member, arrow, Suffix::Decrement(HERE)])
+    Ok(Suffix::CallWith(HERE, name(alloc, "x")?, second, HERE))
+}
+
+// `( x , y ) . b -> c --`
+fn suffixes(alloc: Global, out: &mut Items<Suffix>) -> Result<(), Fail> {
+    out.push(arguments(alloc)?)?;
+    out.push(Suffix::Member(HERE, identifier(alloc, "b")?))?;
+    out.push(Suffix::Arrow(HERE, identifier(alloc, "c")?))?;
+    out.push(Suffix::Decrement(HERE))?;
+    Ok(())
+}
+
+// `f ( x , y ) . b -> c --`
+fn called(alloc: Global) -> Result<Expr, Fail> {
+    let mut all = Items::new(alloc);
+    suffixes(alloc, &mut all)?;
+    Ok(Expr::Postfix(Boxed::new(alloc, name(alloc, "f")?)?, all))
+}
+
+// `* p = a [ 0 ]`
+fn element(alloc: Global) -> Result<Expr, Fail> {
+    let target = prefixed(alloc, Prefix::Operator(mark(Punct::Star)), name(alloc, "p")?)?;
+    let value = postfix(alloc, name(alloc, "a")?, Suffix::Index(HERE, int(0), HERE))?;
+    assign(alloc, target, Punct::Assign, value)
 }
 
 // `* p = a [ 0 ] , f ( x , y ) . b -> c --`
 fn postfixes(alloc: Global) -> Result<Expr, Fail> {
-    let target = prefixed(alloc, Prefix::Operator(mark(Punct::Star)), name(alloc, "p")?)?;
-    let element = postfix(alloc, name(alloc, "a")?, Suffix::Index(HERE, int(0), HERE))?;
-    let set = assign(alloc, target, Punct::Assign, element)?;
-    let called = Boxed::new(alloc, name(alloc, "f")?)?;
-    comma(alloc, set, Expr::Postfix(called, suffixes(alloc)?))
+    let first = element(alloc)?;
+    comma(alloc, first, called(alloc)?)
 }
 
 fn pointer_to_pair(alloc: Global) -> Result<TypeName, Fail> {
     let pair = Specifier::TypedefName(identifier(alloc, "pair")?);
+    let specifiers = items(alloc, [pair])?;
     let pointer = Declarator {
         pointers: items(alloc, [star(alloc)])?,
         direct: Direct::Nothing,
         suffixes: Items::new(alloc),
     };
-    Ok(type_name(items(alloc, [pair])?, pointer))
+    Ok(type_name(specifiers, pointer))
+}
+
+// `sizeof ( int )`
+fn size_of_int(alloc: Global) -> Result<Expr, Fail> {
+    let int_type = type_name(words(alloc, [TypeWord::Int])?, nothing(alloc));
+    Ok(Expr::SizeofType(HERE, HERE, Boxed::new(alloc, int_type)?, HERE))
+}
+
+// `( pair * ) x`
+fn cast(alloc: Global) -> Result<Expr, Fail> {
+    let prefix = Prefix::Cast(HERE, pointer_to_pair(alloc)?, HERE);
+    prefixed(alloc, prefix, name(alloc, "x")?)
+}
+
+// `sizeof ~ y`
+fn size(alloc: Global) -> Result<Expr, Fail> {
+    let run = items(alloc, [Prefix::Sizeof(HERE), Prefix::Operator(mark(Punct::Tilde))])?;
+    Ok(Expr::Prefixed(run, Boxed::new(alloc, name(alloc, "y")?)?))
 }
 
 // `sizeof ( int ) ? ( pair * ) x : sizeof ~ y`
 fn casts(alloc: Global) -> Result<Expr, Fail> {
-    let int_type = type_name(words(alloc, [TypeWord::Int])?, nothing(alloc));
-    let size = Expr::SizeofType(HERE, HERE, Boxed::new(alloc, int_type)?, HERE);
-    let cast = Prefix::Cast(HERE, pointer_to_pair(alloc)?, HERE);
-    let gives = prefixed(alloc, cast, name(alloc, "x")?)?;
-    let run = items(alloc, [Prefix::Sizeof(HERE), Prefix::Operator(mark(Punct::Tilde))])?;
-    let operand = Expr::Prefixed(run, Boxed::new(alloc, name(alloc, "y")?)?);
-    conditional(alloc, size, gives, operand)
+    let first = size_of_int(alloc)?;
+    let gives = cast(alloc)?;
+    conditional(alloc, first, gives, size(alloc)?)
 }
 
 fn literal(alloc: Global, text: &str) -> Result<Literal, Fail> {
@@ -64,7 +96,8 @@ fn literal(alloc: Global, text: &str) -> Result<Literal, Fail> {
 }
 
 fn strings(alloc: Global) -> Result<Expr, Fail> {
-    Ok(Expr::Strings(items(alloc, [literal(alloc, "ab")?, literal(alloc, "c")?])?))
+    let first = literal(alloc, "ab")?;
+    Ok(Expr::Strings(items(alloc, [first, literal(alloc, "c")?])?))
 }
 
 // `7ul == 8l << 'a'`
@@ -104,14 +137,24 @@ fn for_ever(alloc: Global) -> Result<Stmt, Fail> {
     Ok(Stmt::For(HERE, control, Boxed::new(alloc, body)?))
 }
 
-// `for ( int i = 0 ; i < 3 ; i += 1 ) break ;`
-fn for_three(alloc: Global) -> Result<Stmt, Fail> {
+// `int i = 0 ;`
+fn from_zero(alloc: Global) -> Result<ForHead, Fail> {
     let i = items(alloc, [declared(alloc, true, "i", Some(int(0)))?])?;
-    let head = ForHead::Declaration(declaration(words(alloc, [TypeWord::Int])?, i));
+    Ok(ForHead::Declaration(declaration(words(alloc, [TypeWord::Int])?, i)))
+}
+
+// `( int i = 0 ; i < 3 ; i += 1 )`
+fn three_times(alloc: Global) -> Result<ForControl, Fail> {
+    let head = from_zero(alloc)?;
     let test = binary(alloc, Level::Relation, name(alloc, "i")?, Punct::Less, int(3))?;
     let step = assign(alloc, name(alloc, "i")?, Punct::PlusAssign, int(1))?;
+    Ok(control(head, Some(test), Some(step)))
+}
+
+// `for ( int i = 0 ; i < 3 ; i += 1 ) break ;`
+fn for_three(alloc: Global) -> Result<Stmt, Fail> {
     let body = Boxed::new(alloc, Stmt::Break(HERE, HERE))?;
-    Ok(Stmt::For(HERE, control(head, Some(test), Some(step)), body))
+    Ok(Stmt::For(HERE, three_times(alloc)?, body))
 }
 
 // `for ( i ; ; ) ;`
@@ -138,28 +181,34 @@ fn both_ways(alloc: Global) -> Result<Stmt, Fail> {
     if_stmt(alloc, name(alloc, "x")?, Stmt::Expression(None, HERE), others)
 }
 
-fn statements(alloc: Global) -> Result<Vec<Stmt>, Fail> {
-    let mut all = Vec::new(alloc);
-    all.push(stated(postfixes(alloc)?))?;
-    all.push(stated(casts(alloc)?))?;
-    all.push(stated(strings(alloc)?))?;
-    all.push(stated(numbers(alloc)?))?;
-    all.push(Stmt::Expression(None, HERE))?;
-    all.push(do_loop(alloc)?)?;
-    all.push(for_ever(alloc)?)?;
-    all.push(for_three(alloc)?)?;
-    all.push(for_value(alloc)?)?;
-    all.push(switch(alloc)?)?;
-    all.push(both_ways(alloc)?)?;
-    Ok(all)
+fn states(out: &mut Items<BlockItem>, statement: Stmt) -> Result<(), Fail> {
+    out.push(BlockItem::Statement(statement))?;
+    Ok(())
 }
 
-pub fn function(alloc: Global) -> Result<External, Fail> {
+fn expressions(alloc: Global, out: &mut Items<BlockItem>) -> Result<(), Fail> {
+    states(out, stated(postfixes(alloc)?))?;
+    states(out, stated(casts(alloc)?))?;
+    states(out, stated(strings(alloc)?))?;
+    states(out, stated(numbers(alloc)?))?;
+    states(out, Stmt::Expression(None, HERE))
+}
+
+fn statements(alloc: Global, out: &mut Items<BlockItem>) -> Result<(), Fail> {
+    states(out, do_loop(alloc)?)?;
+    states(out, for_ever(alloc)?)?;
+    states(out, for_three(alloc)?)?;
+    states(out, for_value(alloc)?)?;
+    states(out, switch(alloc)?)?;
+    states(out, both_ways(alloc)?)
+}
+
+pub fn function(alloc: Global, out: &mut Items<External>) -> Result<(), Fail> {
     let mut body = Items::new(alloc);
-    for statement in statements(alloc)? {
-        body.push(BlockItem::Statement(statement))?;
-    }
+    expressions(alloc, &mut body)?;
+    statements(alloc, &mut body)?;
     let list = items(alloc, [DeclaratorSuffix::Empty(HERE, HERE)])?;
     let f = declarator(alloc, "f", list)?;
-    Ok(define(words(alloc, [TypeWord::Void])?, f, block(body)))
+    out.push(define(words(alloc, [TypeWord::Void])?, f, block(body)))?;
+    Ok(())
 }
