@@ -96,8 +96,12 @@ pub function : ℕ → Specifier → Declarator → Declarator
 function code s d = roll-Declarator (record { pointers = []; direct = direct.Named (letter code); suffixes = suffix.Parameters here (roll-Parameter (record { comma = None; specifiers = s ∷ []; declarator = d }) ∷ []) here ∷ [] })
 
 pub function-level : (code : ℕ) (s : Specifier) (d : Declarator) (names : Names) → declarator_level (function code s d) names ≡
-    level_of_declarator (record { pointers = []; direct = level_of_direct (Direct-F.Named (letter code)); suffixes =
-        level_of_declarator_suffix (DeclaratorSuffix-F.Parameters here (level_of_parameter (record { comma = None; specifiers = specifier_level s ∷ []; declarator = declarator_level d }) ∷ []) here) ∷ [] }) names
+    level_of_declarator (record {
+      pointers = [];
+      direct = level_of_direct (Direct-F.Named (letter code));
+      suffixes =
+          level_of_declarator_suffix (DeclaratorSuffix-F.Parameters here (level_of_parameter (record { comma = None; specifiers = specifier_level s ∷ []; declarator = declarator_level d }) ∷ []) here) ∷ [];
+    }) names
 unfolding function
 function-level code s d names =
     let one : Parameter = roll-Parameter (record { comma = None; specifiers = s ∷ []; declarator = d }) in
@@ -105,8 +109,12 @@ function-level code s d names =
     ap (λ f. f names) (declarator_level-roll (record { pointers = []; direct = direct.Named (letter code); suffixes = all ∷ [] }))
     ∙ ap (λ x. level_of_declarator (record { pointers = []; direct = x; suffixes = declarator_suffix_level all ∷ [] }) names) (λ i seen. direct_level-Named (letter code) seen i)
     ∙ ap (λ x. level_of_declarator (record { pointers = []; direct = level_of_direct (Direct-F.Named (letter code)); suffixes = x ∷ [] }) names) (λ i seen. declarator_suffix_level-Parameters here (one ∷ []) here seen i)
-    ∙ ap (λ x. level_of_declarator (record { pointers = []; direct = level_of_direct (Direct-F.Named (letter code)); suffixes =
-        level_of_declarator_suffix (DeclaratorSuffix-F.Parameters here (x ∷ []) here) ∷ [] }) names) (parameter_level-roll (record { comma = None; specifiers = s ∷ []; declarator = d }))
+    ∙ ap (λ x. level_of_declarator (record {
+      pointers = [];
+      direct = level_of_direct (Direct-F.Named (letter code));
+      suffixes =
+          level_of_declarator_suffix (DeclaratorSuffix-F.Parameters here (x ∷ []) here) ∷ [];
+    }) names) (parameter_level-roll (record { comma = None; specifiers = s ∷ []; declarator = d }))
 
 -- ---- type names and casts
 
