@@ -40,6 +40,7 @@ abbrev pub is_variable_if : Option Scalar → (addressed : Bool) → Bool
 is_variable_if None b = false
 is_variable_if (Some k) b = not b
 
+-- the same of how an object is kept
 abbrev pub is_variable : Kept → Bool
 is_variable h = is_variable_if h.scalar h.addressed
 
@@ -67,15 +68,18 @@ width_of scalar.Pointer = width.Word
 abbrev pub word : Kind
 word = Holds (scalar.Integer width.Word)
 
+-- a value that compares equal or unequal to 0 (C11 6.2.5p21)
 abbrev pub IsScalar : Kind → Type 0
 IsScalar Void = ⊥
 IsScalar (Holds k) = Unit {0}
 
+-- a number (C11 6.2.5p17)
 abbrev pub IsInteger : Kind → Type 0
 IsInteger Void = ⊥
 IsInteger (Holds (scalar.Integer k)) = Unit {0}
 IsInteger (Holds scalar.Pointer) = ⊥
 
+-- a pointer, or the null pointer (C11 6.2.5p20)
 abbrev pub IsPointer : Kind → Type 0
 IsPointer Void = ⊥
 IsPointer (Holds (scalar.Integer k)) = ⊥
@@ -108,9 +112,11 @@ abbrev pub ChangesBy : Scalar → Conversion → Option Arithmetic → Kind → 
 ChangesBy k c None j = Converts c j (Holds k)
 ChangesBy k c (Some o) j = (g : Kind) × ArithmeticGives o (Holds k) j g × Converts c g (Holds k)
 
+-- the same of an assignment
 abbrev pub Changes : Change → Kind → Type 0
 Changes c j = ChangesBy c.scalar c.conversion c.operator j
 
+-- the same of `++` and `--`, whose right operand is the number 1
 abbrev pub Increments : Increment → Type 0
 Increments i = ChangesBy i.scalar i.conversion (Some i.operator) word
 
