@@ -3,6 +3,7 @@
 use Rattle.std.specs.Prelude.{◌≡◌, ℕ, ◌^◌, ◌<◌, ◌≤◌, List, [], ◌∷◌, Option, Some, None, slice_get, Bool, false, not}
 use Rattle.word_ops.specs.declared.operation.Width.{Width}
 use Rattle.word_ops.specs.declared.operation.Width.TheVariants as width
+use Rattle.c_tree.specs.declared.typed.types.CType.{CType}
 use Rattle.c_tree.specs.declared.typed.operator.Scalar.{Scalar}
 use Rattle.c_tree.specs.declared.typed.operator.Scalar.TheVariants as scalar
 use Rattle.c_tree.specs.declared.typed.operator.Conversion.{Conversion}
@@ -19,6 +20,21 @@ use Rattle.c_tree.specs.declared.typed.expression.TExpr.{TExpr, Row_of-TExpr, en
 use Rattle.c_tree.specs.declared.typed.expression.TExpr.TheVariants as x
 use Rattle.c_tree.specs.declared.typed.expression.Step.TheVariants as step
 use Rattle.c_tree.specs.declared.typed.expression.Target.TheVariants as target
+
+-- the type of an expression (C11 6.5p1)
+abbrev pub type_of : TExpr → CType
+type_of (x.Primary t p) = t
+type_of (x.Applied' t p a n steps) = t
+type_of (x.All' t n all) = t
+type_of (x.Any' t n all) = t
+type_of (x.Choose' t n arms p a) = t
+type_of (x.Comma' t n all p a) = t
+type_of (x.Assign' t n targets p a) = t
+type_of (x.Call' t f n all) = t
+type_of (x.DroppedCall' t f n all) = t
+type_of (x.GetChar t) = t
+type_of (x.PutChar' t p a) = t
+type_of (x.Exit' t p a) = t
 
 -- what an expression gives: nothing that is used, or a value that an object of scalar type holds as it is
 pub data Kind : Type 0 where
