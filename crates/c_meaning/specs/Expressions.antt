@@ -52,10 +52,12 @@ called_only call f vs st w =
 abbrev pub by_truth : {A : Type 0} → Value → (first second : Store → Outside → Run Store A) → Store → Outside → Run Store A
 by_truth v first second st w = given (truth st v) (λ b. branch b first second st w)
 
+-- gives a number
 abbrev pub gives_number : ℕ → Store → Outside → Run Store Value
 gives_number n st w = Gives st w (Number n)
 
 abbrev mutual
+  -- what an expression does, and the value that it gives, form by form; of a void expression the value is used by nothing
   pub value : Calls → TExpr → Environment → Store → Outside → Run Store Value
   value call (x.Primary t p) env st w = given (primary_value env st p) (gives_changed w)
   value call (x.Applied' t p (more_of-TExpr a end_of-TExpr) n steps) env st w =

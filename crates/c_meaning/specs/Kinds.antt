@@ -21,6 +21,7 @@ IsResultOf k None = Unit {0}
 IsResultOf None (Some v) = Unit {0}
 IsResultOf (Some k) (Some v) = IsValueOf (Holds k) v
 
+-- the same by the signature of the function, where there is one
 abbrev pub IsResultIn : Option Signature → Option Value → Type 0
 IsResultIn None o = Unit {0}
 IsResultIn (Some g) o = IsResultOf g.result o

@@ -8,3 +8,4 @@ pub mod ValueKinds
 pub mod CallKinds
 pub mod Equations
 pub mod StatementEquations
+pub mod Names

@@ -51,6 +51,7 @@ narrowed_value k (Pointer r o) = None
 abbrev pub truth_value : Option Bool → Option Value
 truth_value o = option_map (λ b. Number (number_of_truth b)) o
 
+-- a value converted; of a pointer to an integer type other than `_Bool` there is none, but typed units never ask for it
 abbrev pub converted : Store → Conversion → Value → Option Value
 -- C11 6.3.1.3: between types of four bytes the word stays; a value of a narrower type is a word already (6.3.1.1p2)
 converted st (conversion.Integer width.Word) v = Some v
@@ -104,6 +105,7 @@ abbrev pub moved_forward : Store → Stride → (pointer integer : Value) → Op
 moved_forward st z p (Number n) = pointer_plus st p (bytes_moved z n)
 moved_forward st z p (Pointer r o) = None
 
+-- the same, back
 abbrev pub moved_back : Store → Stride → (pointer integer : Value) → Option Value
 moved_back st z p (Number n) = pointer_plus st p (neg_ℤ (bytes_moved z n))
 moved_back st z p (Pointer r o) = None
@@ -118,6 +120,7 @@ elements_between st e x y = option_and_then (elements_in e) (pointer_minus st x 
 
 -- ---- binary operators
 
+-- the value of a binary operator on the values of its operands, or none where it is undefined
 abbrev pub arithmetic_value : Store → Arithmetic → Value → Value → Option Value
 -- C11 6.5.5 to 6.5.7, 6.5.10 to 6.5.12
 arithmetic_value st (arithmetic.Word o) x y = value_of_operation st o x y
@@ -156,6 +159,7 @@ assigned_by st c p v None = option_and_then (stored st c.scalar p) (converted st
 assigned_by st c p v (Some o) =
     option_and_then (λ x. option_and_then (stored st c.scalar p) (operated st o c.conversion x v)) (value_at st c.scalar p)
 
+-- an assignment of a value to the object at an address
 abbrev pub assigned : Store → Change → (place value : Value) → Option Changed
 assigned st c p v = assigned_by st c p v c.operator
 
@@ -171,6 +175,7 @@ incremented st i p =
 
 -- ---- what an expression begins with
 
+-- the value of what an expression begins with, and the store behind it, or none where it is undefined
 abbrev pub primary_value : Environment → Store → Primary → Option Changed
 -- C11 6.4.4, 6.5.1p3, 6.5.3.4
 primary_value env st (primary.Number n) = unchanged st (Some (Number n))
@@ -191,6 +196,7 @@ abbrev pub negated : Store → Sign → Value → Option Value
 negated st sign.Signed v = value_of_operation st op.Subs (Number 0) v
 negated st sign.Unsigned v = value_of_operation st op.Sub (Number 0) v
 
+-- the value of a unary operator on the value of its operand, and the store behind it, or none where it is undefined
 abbrev pub unary_value : Store → Unary → Value → Option Changed
 -- C11 6.3.2.1p2
 unary_value st (unary.Load k) v = unchanged st (value_at st k v)

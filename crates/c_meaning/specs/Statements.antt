@@ -52,6 +52,7 @@ piece_set call (initial.Value n k e) r env st w =
 piece_set call (initial.Bytes n bytes) r env st w =
     given (put_cells st (Pointer r n) 1 (map Byte bytes)) (λ st. Gives st w Normal)
 
+-- gives each piece its value, one behind the other
 abbrev pub pieces_set : Calls → List Initial → ℕ → Environment → Store → Outside → Run Store Done
 pieces_set call [] r env st w = Gives st w Normal
 pieces_set call (i ∷ is) r env st w = then_do (piece_set call i r env st w) (λ st w d. pieces_set call is r env st w)
@@ -95,6 +96,7 @@ after_body (Returns v) rest st w = Gives st w (Over (Returns v))
 abbrev pub again : Store → Outside → Run Store (Turn Done)
 again st w = Gives st w Again
 
+-- the loop is left at its end
 abbrev pub loop_left : Store → Outside → Run Store (Turn Done)
 loop_left st w = Gives st w (Over Normal)
 
@@ -114,14 +116,17 @@ next_iteration call e env st w = then_do (evaluated_if_any call e env st w) (λ 
 
 -- ---- switches (C11 6.8.4.2)
 
+-- whether a label is that of a value
 abbrev pub is_case : ℕ → Label → Bool
 is_case n (label.Case m) = m == n
 is_case n label.Default = false
 
+-- whether a label is `default`
 abbrev pub is_default : Label → Bool
 is_default (label.Case m) = false
 is_default label.Default = true
 
+-- whether one of the labels of a part is such
 abbrev pub has_label : (Label → Bool) → List Label → Bool
 has_label is [] = false
 has_label is (l ∷ ls) = is l || has_label is ls
@@ -136,6 +141,7 @@ abbrev pub part_with : (Label → Bool) → {n : _} → Row_of-Part n → ℕ
 part_with is end_of-Part = zero
 part_with is (more_of-Part labels m body rest) = place_behind (has_label is labels) (part_with is rest)
 
+-- how many parts there are
 abbrev pub parts_in : {n : _} → Row_of-Part n → ℕ
 parts_in end_of-Part = zero
 parts_in (more_of-Part labels m body rest) = suc (parts_in rest)
@@ -160,6 +166,7 @@ switch_body b body env st w = then_do (in_block b body env st w) (λ st w d. Giv
 -- ---- statements
 
 abbrev mutual
+  -- what a statement does, and how it is left, form by form
   pub statement : Calls → TStmt → Environment → Store → Outside → Run Store Done
   -- C11 6.8.3
   statement call (s.Evaluate e) env st w = then_do (value call e env st w) (λ st w v. Gives st w Normal)

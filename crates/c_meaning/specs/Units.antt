@@ -25,6 +25,7 @@ abbrev pub with_part : Region → StaticPart → Region
 with_part g (part.Bytes n bytes) = with_cells g n (map Byte bytes)
 with_part g (part.Address n r o) = with_cells g n (pointer_cells r o)
 
+-- the same with several parts
 abbrev pub with_parts : Region → List StaticPart → Region
 with_parts g [] = g
 with_parts g (p ∷ ps) = with_parts (with_part g p) ps

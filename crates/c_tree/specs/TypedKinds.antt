@@ -3,6 +3,7 @@
 use Rattle.std.specs.Prelude.{◌≡◌, ℕ, ◌^◌, ◌<◌, ◌≤◌, List, [], ◌∷◌, Option, Some, None, slice_get, Bool, false, not}
 use Rattle.word_ops.specs.declared.operation.Width.{Width}
 use Rattle.word_ops.specs.declared.operation.Width.TheVariants as width
+use Rattle.c_tree.specs.declared.typed.types.CType.{CType}
 use Rattle.c_tree.specs.declared.typed.operator.Scalar.{Scalar}
 use Rattle.c_tree.specs.declared.typed.operator.Scalar.TheVariants as scalar
 use Rattle.c_tree.specs.declared.typed.operator.Conversion.{Conversion}
@@ -19,6 +20,21 @@ use Rattle.c_tree.specs.declared.typed.expression.TExpr.{TExpr, Row_of-TExpr, en
 use Rattle.c_tree.specs.declared.typed.expression.TExpr.TheVariants as x
 use Rattle.c_tree.specs.declared.typed.expression.Step.TheVariants as step
 use Rattle.c_tree.specs.declared.typed.expression.Target.TheVariants as target
+
+-- the type of an expression (C11 6.5p1)
+abbrev pub type_of : TExpr → CType
+type_of (x.Primary t p) = t
+type_of (x.Applied' t p a n steps) = t
+type_of (x.All' t n all) = t
+type_of (x.Any' t n all) = t
+type_of (x.Choose' t n arms p a) = t
+type_of (x.Comma' t n all p a) = t
+type_of (x.Assign' t n targets p a) = t
+type_of (x.Call' t f n all) = t
+type_of (x.DroppedCall' t f n all) = t
+type_of (x.GetChar t) = t
+type_of (x.PutChar' t p a) = t
+type_of (x.Exit' t p a) = t
 
 -- what an expression gives: nothing that is used, or a value that an object of scalar type holds as it is
 pub data Kind : Type 0 where
@@ -40,6 +56,7 @@ abbrev pub is_variable_if : Option Scalar → (addressed : Bool) → Bool
 is_variable_if None b = false
 is_variable_if (Some k) b = not b
 
+-- the same of how an object is kept
 abbrev pub is_variable : Kept → Bool
 is_variable h = is_variable_if h.scalar h.addressed
 
@@ -67,15 +84,18 @@ width_of scalar.Pointer = width.Word
 abbrev pub word : Kind
 word = Holds (scalar.Integer width.Word)
 
+-- a value that compares equal or unequal to 0 (C11 6.2.5p21)
 abbrev pub IsScalar : Kind → Type 0
 IsScalar Void = ⊥
 IsScalar (Holds k) = Unit {0}
 
+-- a number (C11 6.2.5p17)
 abbrev pub IsInteger : Kind → Type 0
 IsInteger Void = ⊥
 IsInteger (Holds (scalar.Integer k)) = Unit {0}
 IsInteger (Holds scalar.Pointer) = ⊥
 
+-- a pointer, or the null pointer (C11 6.2.5p20)
 abbrev pub IsPointer : Kind → Type 0
 IsPointer Void = ⊥
 IsPointer (Holds (scalar.Integer k)) = ⊥
@@ -108,9 +128,11 @@ abbrev pub ChangesBy : Scalar → Conversion → Option Arithmetic → Kind → 
 ChangesBy k c None j = Converts c j (Holds k)
 ChangesBy k c (Some o) j = (g : Kind) × ArithmeticGives o (Holds k) j g × Converts c g (Holds k)
 
+-- the same of an assignment
 abbrev pub Changes : Change → Kind → Type 0
 Changes c j = ChangesBy c.scalar c.conversion c.operator j
 
+-- the same of `++` and `--`, whose right operand is the number 1
 abbrev pub Increments : Increment → Type 0
 Increments i = ChangesBy i.scalar i.conversion (Some i.operator) word
 

@@ -21,20 +21,24 @@ abbrev pub StepGives : Names → Step → Kind → Kind → Type 0
 StepGives c (step.Unary u) j g = UnaryGives u j g
 StepGives c (step.Binary o b) j g = (k : Kind) × IsOfKind c b k × ArithmeticGives o j k g
 
+-- steps lead from one kind to another
 abbrev pub StepsLead : Names → List Step → Kind → Kind → Type 0
 StepsLead c [] j g = g ≡ j
 StepsLead c (step.Unary u ∷ rest) j g = (i : Kind) × UnaryGives u j i × StepsLead c rest i g
 StepsLead c (step.Binary o b ∷ rest) j g =
     (k : Kind) × IsOfKind c b k × (i : Kind) × ArithmeticGives o j k i × StepsLead c rest i g
 
+-- each expression gives a value that is true or false
 abbrev pub AllScalar : Names → List TExpr → Type 0
 AllScalar c [] = Unit {0}
 AllScalar c (a ∷ rest) = (j : Kind) × IsOfKind c a j × IsScalar j × AllScalar c rest
 
+-- the value of each expression is dropped
 abbrev pub AllDropped : Names → List TExpr → Type 0
 AllDropped c [] = Unit {0}
 AllDropped c (a ∷ rest) = IsOfKind c a Void × AllDropped c rest
 
+-- each expression gives what a parameter holds, and there are as many
 abbrev pub AllArguments : Names → List TExpr → List (Option Scalar) → Type 0
 AllArguments c [] [] = Unit {0}
 AllArguments c [] (k ∷ ks) = ⊥
@@ -42,11 +46,13 @@ AllArguments c (a ∷ rest) [] = ⊥
 AllArguments c (a ∷ rest) (None ∷ ks) = ⊥
 AllArguments c (a ∷ rest) (Some k ∷ ks) = IsOfKind c a (Holds k) × AllArguments c rest ks
 
+-- each condition is true or false, and what is chosen gives this kind
 abbrev pub ArmsLead : Names → List Arm → Kind → Type 0
 ArmsLead c [] g = Unit {0}
 ArmsLead c (a ∷ rest) g =
     (j : Kind) × IsOfKind c a.condition j × IsScalar j × IsOfKind c a.chosen g × ArmsLead c rest g
 
+-- left sides lead from the kind of the value at the right end to that of the whole
 abbrev pub TargetsLead : Names → List Target → Kind → Kind → Type 0
 TargetsLead c [] j g = g ≡ j
 TargetsLead c (target.Variable i h ∷ rest) j g =

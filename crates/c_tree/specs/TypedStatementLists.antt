@@ -13,27 +13,33 @@ use Rattle.c_tree.specs.TypedUnits.{with_declared, Jumps, in_loop, in_switch, Is
 
 -- ---- the same over lists
 
+-- how many objects statements declare
 abbrev pub declared_all : List TStmt → ℕ
 declared_all [] = 0
 declared_all (a ∷ rest) = declared_in a + declared_all rest
 
+-- how many the branches of an `if` declare
 abbrev pub declared_branches : List Branch → ℕ
 declared_branches [] = 0
 declared_branches (b ∷ rest) = declared_in b.body + declared_branches rest
 
+-- how many the parts of a switch declare
 abbrev pub declared_parts : List Part → ℕ
 declared_parts [] = 0
 declared_parts (p ∷ rest) = declared_all p.body + declared_parts rest
 
+-- statements hang together, one behind the other
 abbrev pub AllStatements : Names → Jumps → (declared : ℕ) → List TStmt → Type 0
 AllStatements c j n [] = Unit {0}
 AllStatements c j n (a ∷ rest) = IsStatement c j n a × AllStatements c j (n + declared_in a) rest
 
+-- branches of an `if` hang together
 abbrev pub AllBranches : Names → Jumps → (declared : ℕ) → List Branch → Type 0
 AllBranches c j n [] = Unit {0}
 AllBranches c j n (b ∷ rest) =
     IsCondition c b.condition × IsStatement c j n b.body × AllBranches c j (n + declared_in b.body) rest
 
+-- parts of a switch hang together
 abbrev pub AllParts : Names → Jumps → (declared : ℕ) → List Part → Type 0
 AllParts c j n [] = Unit {0}
 AllParts c j n (p ∷ rest) = AllStatements c j n p.body × AllParts c j (n + declared_all p.body) rest

@@ -31,6 +31,7 @@ IsKeptIn (Some k) n a = (n ≡ bytes_of (width_of k)) × (a ≡ bytes_of (width_
 abbrev pub IsObject : Object → Type 0
 IsObject o = IsSize o.size × IsKeptIn o.scalar o.size o.alignment
 
+-- declared objects
 abbrev pub AreObjects : List Object → Type 0
 AreObjects [] = Unit {0}
 AreObjects (o ∷ os) = IsObject o × AreObjects os
@@ -46,6 +47,7 @@ AreParameters (o ∷ os) = (k : Scalar) × (o.scalar ≡ Some k) × IsObject o �
 abbrev pub kept_as : Object → Kept
 kept_as o = record { scalar = o.scalar; addressed = o.addressed }
 
+-- the scalar type as which an object is kept, where it is one
 abbrev pub scalar_of : Object → Option Scalar
 scalar_of o = o.scalar
 
@@ -53,6 +55,7 @@ scalar_of o = o.scalar
 abbrev pub with_declared : Names → List Object → Names
 with_declared c os = record { statics = c.statics; functions = c.functions; objects = c.objects ++ map kept_as os }
 
+-- what a function takes and gives
 abbrev pub signature_of : TFunction → Signature
 signature_of f = record { parameters = map scalar_of f.parameters; result = f.scalar }
 
@@ -69,9 +72,11 @@ pub record Jumps : Type 0 where
   pub continues : Bool
   pub result : Option Scalar
 
+-- in the body of a loop (C11 6.8.6.2p1, 6.8.6.3p1)
 abbrev pub in_loop : Jumps → Jumps
 in_loop j = record { breaks = true; continues = true; result = j.result }
 
+-- in the body of a switch (C11 6.8.6.3p1)
 abbrev pub in_switch : Jumps → Jumps
 in_switch j = record { breaks = true; continues = j.continues; result = j.result }
 
@@ -79,6 +84,7 @@ in_switch j = record { breaks = true; continues = j.continues; result = j.result
 abbrev pub IsCondition : Names → TExpr → Type 0
 IsCondition c e = (j : Kind) × IsOfKind c e j × IsScalar j
 
+-- the same where there may be none (C11 6.8.5.3)
 abbrev pub IsConditionIfAny : Names → Option TExpr → Type 0
 IsConditionIfAny c None = Unit {0}
 IsConditionIfAny c (Some e) = IsCondition c e
@@ -88,6 +94,7 @@ abbrev pub IsDroppedIfAny : Names → Option TExpr → Type 0
 IsDroppedIfAny c None = Unit {0}
 IsDroppedIfAny c (Some e) = IsOfKind c e Void
 
+-- pieces of the initial value of an aggregate, each of the kind of its member or element (C11 6.7.9p11, p20)
 abbrev pub AreInitials : Names → List Initial → Type 0
 AreInitials c [] = Unit {0}
 AreInitials c (initial.Value n k e ∷ is) = IsOfKind c e (Holds k) × AreInitials c is
@@ -109,6 +116,7 @@ IsReturnOf c (Some k) (Some e) = IsOfKind c e (Holds k)
 
 -- how many objects a statement declares, in itself and in the blocks in it
 abbrev mutual
+  -- those of a statement
   pub declared_in : TStmt → ℕ
   declared_in (s.Evaluate e) = 0
   declared_in (s.Initialise i v) = 0
@@ -122,14 +130,17 @@ abbrev mutual
   declared_in s.Continue = 0
   declared_in (s.Return e) = 0
 
+  -- those of statements
   pub declared_in_all : {n : _} → Row_of-TStmt n → ℕ
   declared_in_all end_of-TStmt = 0
   declared_in_all (more_of-TStmt a rest) = declared_in a + declared_in_all rest
 
+  -- those of the branches of an `if`
   pub declared_in_branches : {n : _} → Row_of-Branch n → ℕ
   declared_in_branches end_of-Branch = 0
   declared_in_branches (more_of-Branch e a rest) = declared_in a + declared_in_branches rest
 
+  -- those of the parts of a switch
   pub declared_in_parts : {n : _} → Row_of-Part n → ℕ
   declared_in_parts end_of-Part = 0
   declared_in_parts (more_of-Part labels m body rest) = declared_in_all body + declared_in_parts rest
@@ -163,15 +174,18 @@ abbrev mutual
   IsStatement c j n s.Continue = j.continues ≡ true
   IsStatement c j n (s.Return e) = IsReturnOf c j.result e
 
+  -- statements one behind the other
   pub AreStatements : Names → Jumps → (declared : ℕ) → {n : _} → Row_of-TStmt n → Type 0
   AreStatements c j n end_of-TStmt = Unit {0}
   AreStatements c j n (more_of-TStmt a rest) = IsStatement c j n a × AreStatements c j (n + declared_in a) rest
 
+  -- the branches of an `if`
   pub AreBranches : Names → Jumps → (declared : ℕ) → {n : _} → Row_of-Branch n → Type 0
   AreBranches c j n end_of-Branch = Unit {0}
   AreBranches c j n (more_of-Branch e a rest) =
       IsCondition c e × IsStatement c j n a × AreBranches c j (n + declared_in a) rest
 
+  -- the parts of a switch
   pub AreParts : Names → Jumps → (declared : ℕ) → {n : _} → Row_of-Part n → Type 0
   AreParts c j n end_of-Part = Unit {0}
   AreParts c j n (more_of-Part labels m body rest) =
@@ -196,6 +210,7 @@ LiesIn u size (part.Bytes n bytes) = n + length bytes ≤ size
 LiesIn u size (part.Address n r o) =
     (n + 4 ≤ size) × (n % 4 ≡ 0) × (p : StaticObject) × (slice_get u.objects r ≡ Some p) × (o ≤ p.object.size)
 
+-- the same of several parts
 abbrev pub LieIn : Typed → (size : ℕ) → List StaticPart → Type 0
 LieIn u size [] = Unit {0}
 LieIn u size (p ∷ ps) = LiesIn u size p × LieIn u size ps

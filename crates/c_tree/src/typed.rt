@@ -13,6 +13,8 @@
 mod expression;
 mod operator;
 mod statement;
+#[cfg(test)]
+mod tests;
 mod types;
 mod unit;
 

@@ -25,6 +25,7 @@ use Rattle.c_meaning.specs.Examples.Trees.{computed, int, char, signed_char, uns
 abbrev outcome : List Object → List TStmt → Option Outcome
 outcome os ss = outcome_of_unit (unit os ss) [] 10 1000
 
+-- putchar of a number
 abbrev put : ℕ → TExpr
 put n = putchar (num n)
 
@@ -140,6 +141,7 @@ chain_passes_on_what_was_stored = refl
 abbrev bool_down : TStmt
 bool_down = do_ (x.Primary bool (primary.Increment 0 (record { scalar = byte; operator = arithmetic.Word op.Subs; conversion = to_bool; given = giving.Old })))
 
+-- the outcome of a _Bool that is 0 before these statements, and returned behind them
 abbrev bool_after : List TStmt → Option Outcome
 bool_after ss = outcome (object bool (Some byte) 1 1 ∷ []) (begin_as byte 0 (on bool (num 0) (to to_bool ∷ [])) ∷ group ss ∷ return (on int (var_as bool byte 0) (to to_word ∷ [])) ∷ [])
 
@@ -159,9 +161,11 @@ bool_below_1 = refl
 abbrev three : List TStmt → List TStmt
 three ss = begin_with 0 (int_at 0 3 ∷ int_at 4 4 ∷ int_at 8 5 ∷ []) ∷ begin_as pointer 1 (at (array_of 3 int) 0) ∷ ss
 
+-- the outcome of statements behind these
 abbrev with_three : List TStmt → Option Outcome
 with_three ss = outcome (ints 3 ∷ a_pointer ∷ []) (three ss)
 
+-- p++
 abbrev pointer_up : TExpr
 pointer_up = x.Primary (pointer_to int) (primary.Increment 1 (record { scalar = pointer; operator = arithmetic.PointerPlus (record { element = 4; sign = sign.Signed }); conversion = to_pointer; given = giving.Old }))
 

@@ -43,6 +43,7 @@ returns_end_of_input = refl
 abbrev pub sum_main : TFunction
 sum_main = main_of (an_int ∷ an_int ∷ []) (begin 0 (num 0) ∷ do_ (set 1 (num 0)) ∷ s.For (Some (is_less (var 1) (num 10))) (Some (dropped (postfix_plus 1))) (do_ (set 0 (plus (var 0) (var 1)))) ∷ return (var 0) ∷ [])
 
+-- int main(void){int s=0;int i;for(i=0;i<10;i++)s=s+i;return s;}: the unit
 abbrev pub sum : Typed
 sum = unit_with [] (sum_main ∷ []) 0
 
@@ -155,6 +156,7 @@ bool_is_1 = refl
 abbrev counted : ℕ → TStmt
 counted i = do_ (increment op.Add giving.Old i)
 
+-- c is this byte
 abbrev is_byte : ℕ → TExpr
 is_byte b = is_equal (var 4) (num b)
 

@@ -16,6 +16,7 @@ use Rattle.c_meaning.specs.Examples.Trees.{computed, int, char, pointer_to, arra
 abbrev outcome : List Object → List TStmt → Option Outcome
 outcome os ss = outcome_of_unit (unit os ss) [] 10 1000
 
+-- putchar of a number, as a statement
 abbrev put : ℕ → TStmt
 put n = do_ (putchar (num n))
 

@@ -130,6 +130,7 @@ not_wholly_inside = refl
 abbrev literal_used : List TStmt → Option Outcome
 literal_used ss = outcome_of_unit (unit_with (literal 3 (97 ∷ 98 ∷ 0 ∷ []) ∷ []) (main_of (object (pointer_to char) (Some pointer) 4 4 ∷ []) (begin_as pointer 0 (static (array_of 3 char) 0) ∷ ss) ∷ []) 0) [] 10 1000
 
+-- s[N]
 abbrev char_at : ℕ → TExpr
 char_at n = on int (pvar 0) (index 1 (num n) ∷ load byte ∷ to to_word ∷ [])
 
@@ -251,6 +252,7 @@ negative_of_next = refl
 abbrev moved_by : TExpr → Option Outcome
 moved_by p = outcome (ints 2 ∷ []) (return (on int p (compare_pointers relation.NotEqual null ∷ [])) ∷ [])
 
+-- a, as an address
 abbrev two : TExpr
 two = at (array_of 2 int) 0
 
@@ -291,6 +293,7 @@ null_plus_zero = refl
 abbrev behind_block : TExpr → Option Outcome
 behind_block e = outcome (a_pointer ∷ []) (block 1 (an_int ∷ []) (begin 1 (num 6) ∷ do_ (set_pointer 0 (at (pointer_to int) 1)) ∷ []) ∷ return e ∷ [])
 
+-- the second of these
 abbrev in_the_block : TExpr → Option Outcome
 in_the_block e = outcome (a_pointer ∷ []) (block 1 (an_int ∷ []) (begin 1 (num 6) ∷ do_ (set_pointer 0 (at (pointer_to int) 1)) ∷ return e ∷ []) ∷ [])
 
@@ -371,6 +374,7 @@ dead_pointer_is_copied = refl
 abbrev two_arrays : TExpr → Option Outcome
 two_arrays e = outcome (ints 2 ∷ ints 2 ∷ []) (return e ∷ [])
 
+-- b, as an address
 abbrev b : TExpr
 b = at (array_of 2 int) 1
 

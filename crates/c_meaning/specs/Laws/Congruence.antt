@@ -7,6 +7,7 @@ use Rattle.word_ops.specs.Run.{Outside, Run, Gives, Undefined, then_do, given, b
 abbrev pub Relation : Type 1
 Relation = (S A : Type 0) → (Outside → Run S A) → (Outside → Run S A) → Type 0
 
+-- each way to put runs together relates what is put together from related parts
 pub record IsCongruence (R : Relation) : Type 1 where
   pub gives : (S A : Type 0) (s : S) (a : A) → R S A (λ w. Gives s w a) (λ w. Gives s w a)
   pub undefined : (S A : Type 0) → R S A (λ w. Undefined) (λ w. Undefined)

@@ -101,6 +101,7 @@ module _ {S D : Type 0} (f g : S → Outside → Run S (Turn D)) (d : (s : S) �
 
 -- ---- the congruence
 
+-- the second part is the first one with more depth
 abbrev pub Deeper : Relation
 Deeper S A h k = IsDeeper h k
 

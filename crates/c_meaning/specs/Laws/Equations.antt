@@ -22,21 +22,25 @@ Does A = Environment → Store → Outside → Run Store A
 
 -- ---- the same over lists
 
+-- the values of expressions, from left to right
 abbrev pub values_of : Calls → List TExpr → Does (List Value)
 values_of call [] env st w = Gives st w []
 values_of call (a ∷ rest) env st w =
     then_do (value call a env st w) (λ st w v. then_do (values_of call rest env st w) (λ st w vs. Gives st w (v ∷ vs)))
 
+-- the operands of `&&`
 abbrev pub every_of : Calls → List TExpr → Does Value
 every_of call [] env st w = Gives st w (Number 1)
 every_of call (a ∷ rest) env st w =
     then_do (value call a env st w) (λ st w v. by_truth v (every_of call rest env) (gives_number 0) st w)
 
+-- the operands of `||`
 abbrev pub some_of : Calls → List TExpr → Does Value
 some_of call [] env st w = Gives st w (Number 0)
 some_of call (a ∷ rest) env st w =
     then_do (value call a env st w) (λ st w v. by_truth v (gives_number 1) (some_of call rest env) st w)
 
+-- what is done with a value, step by step
 abbrev pub stepped_of : Calls → List Step → Value → Does Value
 stepped_of call [] v env st w = Gives st w v
 stepped_of call (step.Unary u ∷ rest) v env st w =
@@ -44,11 +48,13 @@ stepped_of call (step.Unary u ∷ rest) v env st w =
 stepped_of call (step.Binary o b ∷ rest) v env st w =
     then_do (value call b env st w) (λ st w y. given (arithmetic_value st o v y) (λ v. stepped_of call rest v env st w))
 
+-- the arms of `? :`
 abbrev pub chosen_of : Calls → List Arm → (last : Store → Outside → Run Store Value) → Does Value
 chosen_of call [] last env st w = last st w
 chosen_of call (a ∷ rest) last env st w =
     then_do (value call a.condition env st w) (λ st w v. by_truth v (value call a.chosen env) (chosen_of call rest last env) st w)
 
+-- the left sides of assignments
 abbrev pub assigning_of : Calls → List Target → (last : Store → Outside → Run Store Value) → Does Value
 assigning_of call [] last env st w = last st w
 assigning_of call (target.Variable i c ∷ rest) last env st w =

@@ -21,26 +21,31 @@ Runs = Environment → Store → Outside → Run Store Done
 
 -- ---- the same over lists
 
+-- statements one after another
 abbrev pub statements_of : Calls → List TStmt → Runs
 statements_of call [] env st w = Gives st w Normal
 statements_of call (a ∷ rest) env st w =
     then_do (statement call a env st w) (λ st w d. next d (statements_of call rest env) st w)
 
+-- the branches of an `if`
 abbrev pub first_holding_of : Calls → List Branch → (last : Store → Outside → Run Store Done) → Runs
 first_holding_of call [] last env st w = last st w
 first_holding_of call (a ∷ rest) last env st w =
     then_do (holds call a.condition env st w) (λ st w b. branch b (statement call a.body env) (first_holding_of call rest last env) st w)
 
+-- the parts of a switch from one on
 abbrev pub statements_from_of : Calls → List Part → ℕ → Runs
 statements_from_of call [] k env st w = Gives st w Normal
 statements_from_of call (p ∷ rest) zero env st w =
     then_do (statements_of call p.body env st w) (λ st w d. next d (statements_from_of call rest zero env) st w)
 statements_from_of call (p ∷ rest) (suc k) env st w = statements_from_of call rest k env st w
 
+-- the first part with such a label, or the number of parts
 abbrev pub part_with_of : (Label → Bool) → List Part → ℕ
 part_with_of is [] = zero
 part_with_of is (p ∷ rest) = place_behind (has_label is p.labels) (part_with_of is rest)
 
+-- where a switch begins
 abbrev pub first_part_of : ℕ → List Part → ℕ
 first_part_of v parts =
     if part_with_of (is_case v) parts == length parts then part_with_of is_default parts else part_with_of (is_case v) parts

@@ -39,6 +39,31 @@ pub enum TExpr {
     Exit(CType, Boxed<TExpr>),
 }
 
+impl TExpr {
+    ghost use Rattle.std.specs.Prelude.{◌≡◌};
+    ghost use Rattle.c_tree.specs.TypedKinds.{type_of};
+
+    /// The type of the expression; that of a designator is the type of the object (C11 6.5p1).
+    pub fn ctype(&self) -> &CType
+        ensures { result.now ≡ type_of self.now }
+    {
+        match self {
+            TExpr::Primary(t, _) => t,
+            TExpr::Applied(t, _, _) => t,
+            TExpr::All(t, _) => t,
+            TExpr::Any(t, _) => t,
+            TExpr::Choose(t, _, _) => t,
+            TExpr::Comma(t, _, _) => t,
+            TExpr::Assign(t, _, _) => t,
+            TExpr::Call(t, _, _) => t,
+            TExpr::DroppedCall(t, _, _) => t,
+            TExpr::GetChar(t) => t,
+            TExpr::PutChar(t, _) => t,
+            TExpr::Exit(t, _) => t,
+        }
+    }
+}
+
 /// What is done with a value.
 #[cycle(expressions)]
 #[derive(Debug, Drop)]

@@ -9,6 +9,21 @@ pub enum Scalar {
     Pointer,
 }
 
+impl Scalar {
+    ghost use Rattle.std.specs.Prelude.{◌≡◌};
+    ghost use Rattle.c_tree.specs.TypedKinds.{width_of};
+
+    /// How many bytes such an object has, and how they are read: a pointer takes a word (C11 6.2.6.1p4).
+    pub fn width(self) -> Width
+        ensures { result ≡ width_of self }
+    {
+        match self {
+            Scalar::Integer(width) => width,
+            Scalar::Pointer => Width::Word,
+        }
+    }
+}
+
 /// How an integer is read: as signed or as unsigned (C11 6.2.5p4, p6).
 #[derive(Clone, Copy, Debug, PartialEq, Eq, Hash)]
 pub enum Sign {
