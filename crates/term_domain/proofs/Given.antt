@@ -66,9 +66,10 @@ pub gives_pushed : (Kind : World → Value → Type 0) (old new : Rows) (node : 
     (w : World) (v : Value) → TableStands old w → Kind w v → TableStands new (with_term w t v) × (t < length old → w.values t ≡ v)
 gives_pushed Kind old new node facts t n older may w v h k =
     let e = n.number in
-    let p = n.pushed in
-    (subst (λ t. TableStands new (with_term w t v)) (sym e) (stands-push old new node facts w v p older h (may w v h k)),
-      λ lt. absurd (omega (arith, e, lt)))
+    let p = n.pushed in (
+      subst (λ t. TableStands new (with_term w t v)) (sym e) (stands-push old new node facts w v p older h (may w v h k)),
+      λ lt. absurd (omega (arith, e, lt)),
+    )
 
 pub gives_shared : (Kind : World → Value → Type 0) (old new : Rows) (node : Node) (facts : Facts) (t : ℕ) → IsShared old node facts t new →
     IsOverScope (λ y. y < length old) node → ((w : World) (v : Value) → TableStands old w → Kind w v → MayBe w node facts v) →
@@ -162,10 +163,11 @@ pub load_given : (old new : Rows) (k : Width) (p : Term) (facts : Facts) (t : �
     ((t < length old → ⊥) → (v : Value) → MayLoad w.store k cells v → IsInRangeUnless k (decode k cells) v → TableStands new (with_term w t v))
 load_given old new k p facts t n lp any w cells h c =
     let e = n.number in
-    let q = n.pushed in
-    (λ lt. absurd (omega (arith, e, lt)),
+    let q = n.pushed in (
+      λ lt. absurd (omega (arith, e, lt)),
       λ fresh v m r. subst (λ t. TableStands new (with_term w t v)) (sym e)
-        (stands-push old new (nodes.Load k p) facts w v q lp h (load_may old k p facts any w cells v h c m r)))
+          (stands-push old new (nodes.Load k p) facts w v q lp h (load_may old k p facts any w cells v h c m r)),
+    )
 
 -- ---- objects
 

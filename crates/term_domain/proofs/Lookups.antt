@@ -124,9 +124,9 @@ only_node rows key h d shared own (Some x) e = λ y lt n.
     elim (cases_lt x y) [
       | inl less ↦ absurd (one_place rows key d x y p.0 other.0 p.2 other.1 k l less)
       | inr le ↦ elim (cases_lt y x) [
-          | inl less ↦ absurd (one_place rows key d y x other.0 p.0 other.1 p.2 l k less)
-          | inr ge ↦ omega (arith, le, ge)
-        ]
+        | inl less ↦ absurd (one_place rows key d y x other.0 p.0 other.1 p.2 l k less)
+        | inr ge ↦ omega (arith, le, ge)
+      ]
     ]
 
 -- where none is found, no term has the node
@@ -151,7 +151,7 @@ pushed_rows rows key facts h own new = insert_entry-absent key_eq.it key facts r
         let is : key ≡ row.0 = same_key key row.0 q in
         let node : row.0.node ≡ key.node = ap (λ k. k.node) (sym is) in
         let places : own_place key.node x ≡ own_place key.node (length rows) =
-          ap (λ m. own_place m x) (sym node) ∙ sym (h.keyed x row e) ∙ ap (λ k. k.own) (sym is) ∙ own in
+        ap (λ m. own_place m x) (sym node) ∙ sym (h.keyed x row e) ∙ ap (λ k. k.own) (sym is) ∙ own in
         absurd (elim (own_apart key.node x (length rows) places) [
           | inl none ↦ new none x (within rows x row e) (ap node_in e ∙ node)
           | inr same ↦ let lt = within rows x row e in omega (arith, same, lt)
@@ -205,7 +205,7 @@ pub only_in : (rows now : Rows) (key : Key) (node : Node) (r : Option ℕ) → I
 only_in rows now key node r h d v n o shared e =
     subst (λ (now : Rows). IfSome r (λ x. (y : ℕ) → y < length now → node_at now y ≡ node → y ≡ x)) v
     (subst (λ (node : Node). IfSome r (λ x. (y : ℕ) → y < length rows → node_at rows y ≡ node → y ≡ x)) n
-      (only_node rows key h d (λ x. ap (λ m. own_place m x) n ∙ shared x) (o ∙ shared 0) r e))
+    (only_node rows key h d (λ x. ap (λ m. own_place m x) n ∙ shared x) (o ∙ shared 0) r e))
 
 pub none_in : (rows now : Rows) (key : Key) (node : Node) (r : Option ℕ) → IsTable rows → rows ≡ now → key.node ≡ node →
     key.own ≡ own_place node 0 → ((x : ℕ) → own_place node x ≡ None) → r ≡ position (key_eq.it key) (keys_of rows) →
@@ -213,7 +213,7 @@ pub none_in : (rows now : Rows) (key : Key) (node : Node) (r : Option ℕ) → I
 none_in rows now key node r h v n o shared e f =
     subst (λ (now : Rows). (x : ℕ) → x < length now → node_at now x ≢ node) v
     (subst (λ (node : Node). (x : ℕ) → x < length rows → node_at rows x ≢ node) n
-      (no_node rows key h (λ x. ap (λ m. own_place m x) n ∙ shared x) (o ∙ shared 0) (sym f ∙ e)))
+    (no_node rows key h (λ x. ap (λ m. own_place m x) n ∙ shared x) (o ∙ shared 0) (sym f ∙ e)))
 
 pub pushed_in : (rows now new : Rows) (key : Key) (node : Node) (facts : Facts) (place : ℕ) → IsTable rows → rows ≡ now →
     place ≡ length rows → key.node ≡ node → key.own ≡ own_place node place →
@@ -222,7 +222,7 @@ pub pushed_in : (rows now new : Rows) (key : Key) (node : Node) (facts : Facts) 
 pushed_in rows now new key node facts place h v p n o alone e =
     e ∙ pushed_rows rows key facts h (own_is rows key node place p n o)
     (subst (λ (node : Node). own_place node (length rows) ≡ None → (x : ℕ) → x < length rows → node_at rows x ≢ node) (sym n)
-      (subst (λ (now : Rows). own_place node (length now) ≡ None → (x : ℕ) → x < length now → node_at now x ≢ node) (sym v) alone))
+    (subst (λ (now : Rows). own_place node (length now) ≡ None → (x : ℕ) → x < length now → node_at now x ≢ node) (sym v) alone))
 
 pub table_in : (rows now new : Rows) (key : Key) (node : Node) (facts : Facts) (place : ℕ) → IsTable rows → rows ≡ now →
     place ≡ length rows → key.node ≡ node → key.own ≡ own_place node place → IsOverScope (λ y. y < length now) node →
@@ -230,4 +230,4 @@ pub table_in : (rows now new : Rows) (key : Key) (node : Node) (facts : Facts) (
 table_in rows now new key node facts place h v p n o older e =
     subst IsTable (sym e)
     (IsTable-push rows key facts h (own_is rows key node place p n o)
-      (subst (IsOverScope (λ y. y < length rows)) (sym n) (subst (λ (now : Rows). IsOverScope (λ y. y < length now) node) (sym v) older)))
+    (subst (IsOverScope (λ y. y < length rows)) (sym n) (subst (λ (now : Rows). IsOverScope (λ y. y < length now) node) (sym v) older)))

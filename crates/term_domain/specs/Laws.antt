@@ -38,16 +38,16 @@ pub stands-local : (rows : Rows) (w : World) (u : Values) → ((x : ℕ) → x <
 stands-local rows w u same h = record {
   sound = h.sound;
   each = λ x lt.
-    let r = h.each x lt in
-    let e = same x lt in
-    record {
-      inside = subst (IsValueIn w.store) e r.inside;
-      older = r.older;
-      says = NodeSays-local w u (node_at rows x) (u x)
-        (IsOverScope-map (λ y. y < x) (λ y. w.values y ≡ u y) (node_at rows x) (λ y less. same y (omega (arith, less, lt))) r.older)
-        (subst (NodeSays w (node_at rows x)) e r.says);
-      meets = subst (λ (v : Value). Meets (facts_at rows x) (word_of_value w.store v)) e r.meets;
-    };
+      let r = h.each x lt in
+      let e = same x lt in
+      record {
+        inside = subst (IsValueIn w.store) e r.inside;
+        older = r.older;
+        says = NodeSays-local w u (node_at rows x) (u x)
+            (IsOverScope-map (λ y. y < x) (λ y. w.values y ≡ u y) (node_at rows x) (λ y less. same y (omega (arith, less, lt))) r.older)
+            (subst (NodeSays w (node_at rows x)) e r.says);
+        meets = subst (λ (v : Value). Meets (facts_at rows x) (word_of_value w.store v)) e r.meets;
+      };
 }
 
 -- a store with the same regions changes nothing
@@ -56,13 +56,13 @@ pub stands-store : (rows : Rows) (w : World) (s : Store) → SameRegions w.store
 stands-store rows w s same sound h = record {
   sound = sound;
   each = λ x lt.
-    let r = h.each x lt in
-    record {
-      inside = IsValueIn-same w.store s (w.values x) same r.inside;
-      older = r.older;
-      says = NodeSays-store w s (node_at rows x) (w.values x) same r.says;
-      meets = subst (Meets (facts_at rows x)) (sym (word_of_term-store w s x same r.inside)) r.meets;
-    };
+      let r = h.each x lt in
+      record {
+        inside = IsValueIn-same w.store s (w.values x) same r.inside;
+        older = r.older;
+        says = NodeSays-store w s (node_at rows x) (w.values x) same r.says;
+        meets = subst (Meets (facts_at rows x)) (sym (word_of_term-store w s x same r.inside)) r.meets;
+      };
 }
 
 pub stands-fades : (rows : Rows) (w : World) (s : Store) → Fades w.store s → TableStands rows w → TableStands rows (with_store w s)
@@ -89,8 +89,8 @@ pub stands-take : (rows : Rows) (n : ℕ) (w : World) → TableStands rows w →
 stands-take rows n w h = record {
   sound = h.sound;
   each = λ x lt.
-    let e = slice_get-take rows n x lt in
-    subst (λ (o : Option (Key × Facts)). RowStands w x (node_in o) (facts_in o)) (sym e) (h.each x (length-take_le rows n x lt));
+      let e = slice_get-take rows n x lt in
+      subst (λ (o : Option (Key × Facts)). RowStands w x (node_in o) (facts_in o)) (sym e) (h.each x (length-take_le rows n x lt));
 }
 
 -- a value that the new term of a node with facts may have
@@ -120,7 +120,7 @@ stands-push old new node facts w v p older h m =
         | inl less ↦ subst (λ (o : Option (Key × Facts)). RowStands (with_term w t v) x (node_in o) (facts_in o)) (sym (slice_get-append old ((p.0, facts) ∷ []) x less)) (before.each x less)
         | inr e ↦ subst (λ x. RowStands (with_term w t v) x (node_at (old ++ (p.0, facts) ∷ []) x) (facts_at (old ++ (p.0, facts) ∷ []) x)) (sym e)
             (subst (λ (o : Option (Key × Facts)). RowStands (with_term w t v) t (node_in o) (facts_in o)) (sym (row_behind old (p.0, facts)))
-              (subst (λ (n : Node). RowStands (with_term w t v) t n facts) (sym p.1) (last old node facts w v older m)))
+            (subst (λ (n : Node). RowStands (with_term w t v) t n facts) (sym p.1) (last old node facts w v older m)))
       ];
     })
   where
@@ -132,7 +132,7 @@ stands-push old new node facts w v p older h m =
           inside = subst (IsValueIn w.store) (sym here) m.inside;
           older = older;
           says = subst (NodeSays (with_term w (length old) v) node) (sym here)
-            (NodeSays-local w (with_value w.values (length old) v) node v
+              (NodeSays-local w (with_value w.values (length old) v) node v
               (IsOverScope-map (λ y. y < length old) (λ y. w.values y ≡ with_value w.values (length old) v y) node (λ y less. sym (with_value-other w.values (length old) y v (λ e. omega (arith, e, less)))) older) m.says);
           meets = subst (λ (x : Value). Meets facts (word_of_value w.store x)) (sym here) m.meets;
         }

@@ -16,7 +16,7 @@ pub returns-clause-value : goal.returns-clause-value
 returns-clause-value c =
     IfOk-weaker c.share.result _ _
     (λ t s. gives_shared (λ w v. v ≡ Number c.args.word) c.args.self.now.table c.share.new.self.table (Konst c.args.word) c.only.result t.0 s tt
-      (konst_may c.args.self.now.table c.args.word c.only.result c.ranges.word.fits c.only.ensures.holds) (λ w u v h k. h ∙ sym k))
+    (konst_may c.args.self.now.table c.args.word c.only.result c.ranges.word.fits c.only.ensures.holds) (λ w u v h k. h ∙ sym k))
     c.share.ensures.ok
 
 pub returns-clause-node : goal.returns-clause-node

@@ -29,5 +29,5 @@ pub returns-clause-value : goal.returns-clause-value
 returns-clause-value c =
     IfOk-weaker c.push.result _ _
     (λ t n. gives_pushed (λ w v. IsValueIn w.store v × Meets c.args.assumed.now (word_of_value w.store v)) c.args.self.now.table c.push.new.self Phi c.args.assumed.now t.0 n tt
-      (phi_may c.args.self.now.table c.args.assumed.now))
+    (phi_may c.args.self.now.table c.args.assumed.now))
     c.push.ensures.ok

@@ -27,9 +27,9 @@ pub returns-clause-value : goal.returns-clause-value
 returns-clause-value c =
     IfOk-weaker c.share.result _ _
     (λ t s. gives_shared (λ w v. value_of_operation w.store c.args.op (w.values c.args.a.0) (w.values c.args.b.0) ≡ Some v)
-      c.args.self.now.table c.share.new.self.table (Operate c.args.op c.args.a c.args.b) c.anything.result t.0 s (c.requires.first, c.requires.second)
-      (operation_may c.args.self.now.table c.args.op c.args.a c.args.b c.anything.result c.requires.first c.requires.second c.anything.ensures.is)
-      (λ w u v h k. same_Some u v (sym h ∙ k)))
+    c.args.self.now.table c.share.new.self.table (Operate c.args.op c.args.a c.args.b) c.anything.result t.0 s (c.requires.first, c.requires.second)
+    (operation_may c.args.self.now.table c.args.op c.args.a c.args.b c.anything.result c.requires.first c.requires.second c.anything.ensures.is)
+    (λ w u v h k. same_Some u v (sym h ∙ k)))
     c.share.ensures.ok
 
 pub returns-clause-shared : goal.returns-clause-shared

@@ -25,7 +25,7 @@ pub returns-in-Global-clause-value : goal.returns-in-Global-clause-value
 returns-in-Global-clause-value c =
     IfOk-weaker c.share.result _ _
     (λ t s. gives_shared (λ w v. IsOfRoot w c.args.root v) c.args.self.now.table c.share.new.self.table (Root c.args.root) c.root_facts-facts.result t.0 s tt
-      (root_may c.args.self.now.table c.args.root c.root_facts-facts.result c.root_facts-facts.ensures) (root_one c.args.root (object_shared c.args.root c.in-Global.is)))
+    (root_may c.args.self.now.table c.args.root c.root_facts-facts.result c.root_facts-facts.ensures) (root_one c.args.root (object_shared c.args.root c.in-Global.is)))
     c.share.ensures.ok
 
 pub returns-in-Param : goal.returns-in-Param
@@ -38,7 +38,7 @@ returns-in-Param c = record {
   object = IfOk-weaker c.push.result _ _ (λ t n object. pushed_node _ _ _ _ t.0 n) c.push.ensures.ok;
   alone = IfOk-weaker c.push.result _ _ (λ t n fresh object. absurd (no_object c.args.root c.in-Param.is object)) c.push.ensures.ok;
   value = IfOk-weaker c.push.result _ _
-    (λ t n. gives_pushed (λ w v. IsOfRoot w c.args.root v) c.args.self.now.table c.push.new.self (Root c.args.root) c.root_facts-facts.result t.0 n tt
+      (λ t n. gives_pushed (λ w v. IsOfRoot w c.args.root v) c.args.self.now.table c.push.new.self (Root c.args.root) c.root_facts-facts.result t.0 n tt
       (root_may c.args.self.now.table c.args.root c.root_facts-facts.result c.root_facts-facts.ensures))
-    c.push.ensures.ok;
+      c.push.ensures.ok;
 }
