@@ -2,8 +2,8 @@
 
 use crate::{
     Block, BlockItem, Branch, Condition, Declaration, Declarator, DeclaratorSuffix, Definition,
-    Direct, Else, Expr, External, Identifier, IfHead, InitDeclarator, Initialiser, IntKind, Level,
-    Mark, Next, Parameter, Pointer, Pos, Prefix, Punct, Specifier, Start, Stmt, Suffix, TypeName,
+    Direct, Else, Expr, External, Identifier, InitDeclarator, Initialiser, IntKind, Level, Mark,
+    Next, Parameter, Pointer, Pos, Prefix, Punct, Specifier, Start, Stmt, Suffix, TypeName,
     TypeWord, Unit,
 };
 use std::alloc::Global;
