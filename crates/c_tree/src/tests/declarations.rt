@@ -4,9 +4,9 @@ use crate::tests::trees::{
     HERE, declaration, declarator, identifier, int, items, nothing, parameter, star, words,
 };
 use crate::{
-    Declarator, DeclaratorSuffix, Direct, Enumerator, External, InitDeclarator,
-    Initialiser, InitialiserItem, Member, MemberDeclarator, Parameter, Pointer, Specifier, Start,
-    Storage, TypeWord,
+    Declarator, DeclaratorSuffix, Direct, Enumerator, External, InitDeclarator, Initialiser,
+    InitialiserItem, Member, MemberDeclarator, Parameter, Pointer, Specifier, Start, Storage,
+    TypeWord,
 };
 use std::alloc::Global;
 use std::test::Fail;
@@ -26,13 +26,21 @@ fn plain(declarator: Declarator) -> InitDeclarator {
     }
 }
 
-fn external(alloc: Global, specifiers: Items<Specifier>, declarator: Declarator) -> Result<External, Fail> {
+fn external(
+    alloc: Global,
+    specifiers: Items<Specifier>,
+    declarator: Declarator,
+) -> Result<External, Fail> {
     let list = items(alloc, [plain(declarator)])?;
     Ok(External::Declaration(declaration(specifiers, list)))
 }
 
 fn named(alloc: Global, specifiers: Items<Specifier>, text: &str) -> Result<External, Fail> {
-    external(alloc, specifiers, declarator(alloc, text, Items::new(alloc))?)
+    external(
+        alloc,
+        specifiers,
+        declarator(alloc, text, Items::new(alloc))?,
+    )
 }
 
 fn stored(alloc: Global, storage: Storage, specifier: Specifier) -> Result<Items<Specifier>, Fail> {
@@ -46,7 +54,13 @@ fn array_of(alloc: Global, size: u32) -> Result<Items<DeclaratorSuffix>, Fail> {
 // `* const`
 fn constant_pointer(alloc: Global) -> Result<Items<Pointer>, Fail> {
     let constants = items(alloc, [HERE])?;
-    items(alloc, [Pointer { star: HERE, constants }])
+    items(
+        alloc,
+        [Pointer {
+            star: HERE,
+            constants,
+        }],
+    )
 }
 
 // `* const a`
@@ -101,7 +115,11 @@ fn pair_body(alloc: Global) -> Result<Specifier, Fail> {
 }
 
 fn pair(alloc: Global) -> Result<External, Fail> {
-    named(alloc, stored(alloc, Storage::Typedef, pair_body(alloc)?)?, "pair")
+    named(
+        alloc,
+        stored(alloc, Storage::Typedef, pair_body(alloc)?)?,
+        "pair",
+    )
 }
 
 fn tagged(alloc: Global) -> Result<External, Fail> {
@@ -176,7 +194,10 @@ fn table(alloc: Global) -> Result<External, Fail> {
     let one = InitDeclarator {
         comma: None,
         declarator: table_declarator(alloc)?,
-        start: Some(Start { equals: HERE, value }),
+        start: Some(Start {
+            equals: HERE,
+            value,
+        }),
     };
     let declarators = items(alloc, [one])?;
     let all = declaration(words(alloc, [TypeWord::Int])?, declarators);
@@ -230,7 +251,10 @@ fn two_parameters(alloc: Global, out: &mut Items<Parameter>) -> Result<(), Fail>
 fn with_parameters(alloc: Global) -> Result<External, Fail> {
     let mut parameters = Items::new(alloc);
     two_parameters(alloc, &mut parameters)?;
-    let list = items(alloc, [DeclaratorSuffix::Parameters(HERE, parameters, HERE)])?;
+    let list = items(
+        alloc,
+        [DeclaratorSuffix::Parameters(HERE, parameters, HERE)],
+    )?;
     let g = declarator(alloc, "g", list)?;
     let short = Specifier::Word(TypeWord::Short, HERE);
     external(alloc, stored(alloc, Storage::Auto, short)?, g)
@@ -238,7 +262,11 @@ fn with_parameters(alloc: Global) -> Result<External, Fail> {
 
 // `register long signed char _Bool ;`
 fn words_alone(alloc: Global) -> Result<External, Fail> {
-    let mut all = stored(alloc, Storage::Register, Specifier::Word(TypeWord::Long, HERE))?;
+    let mut all = stored(
+        alloc,
+        Storage::Register,
+        Specifier::Word(TypeWord::Long, HERE),
+    )?;
     all.append(words(alloc, [TypeWord::Signed, TypeWord::Char, TypeWord::Bool])?)?;
     Ok(External::Declaration(declaration(all, Items::new(alloc))))
 }

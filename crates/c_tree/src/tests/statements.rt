@@ -2,8 +2,8 @@
 
 use crate::tests::trees::{
     HERE, assign, binary, block, character, comma, condition, conditional, declaration, declarator,
-    declared, define, else_last, identifier, if_stmt, int, items, mark, name, next, nothing, postfix,
-    prefixed, star, stated, type_name, words,
+    declared, define, else_last, identifier, if_stmt, int, items, mark, name, next, nothing,
+    postfix, prefixed, star, stated, type_name, words,
 };
 use crate::{
     BlockItem, Declarator, DeclaratorSuffix, Direct, Expr, External, ForControl, ForHead, IntKind,
@@ -43,7 +43,11 @@ fn called(alloc: Global) -> Result<Expr, Fail> {
 
 // `* p = a [ 0 ]`
 fn element(alloc: Global) -> Result<Expr, Fail> {
-    let target = prefixed(alloc, Prefix::Operator(mark(Punct::Star)), name(alloc, "p")?)?;
+    let target = prefixed(
+        alloc,
+        Prefix::Operator(mark(Punct::Star)),
+        name(alloc, "p")?,
+    )?;
     let value = postfix(alloc, name(alloc, "a")?, Suffix::Index(HERE, int(0), HERE))?;
     assign(alloc, target, Punct::Assign, value)
 }
@@ -79,7 +83,10 @@ fn cast(alloc: Global) -> Result<Expr, Fail> {
 
 // `sizeof ~ y`
 fn size(alloc: Global) -> Result<Expr, Fail> {
-    let run = items(alloc, [Prefix::Sizeof(HERE), Prefix::Operator(mark(Punct::Tilde))])?;
+    let run = items(
+        alloc,
+        [Prefix::Sizeof(HERE), Prefix::Operator(mark(Punct::Tilde))],
+    )?;
     Ok(Expr::Prefixed(run, Boxed::new(alloc, name(alloc, "y")?)?))
 }
 
@@ -103,7 +110,13 @@ fn strings(alloc: Global) -> Result<Expr, Fail> {
 // `7ul == 8l << 'a'`
 fn numbers(alloc: Global) -> Result<Expr, Fail> {
     let eight = Expr::Number(8, IntKind::Long, HERE);
-    let shifted = binary(alloc, Level::Shift, eight, Punct::ShiftLeft, character(b'a'))?;
+    let shifted = binary(
+        alloc,
+        Level::Shift,
+        eight,
+        Punct::ShiftLeft,
+        character(b'a'),
+    )?;
     let seven = Expr::Number(7, IntKind::UnsignedLong, HERE);
     binary(alloc, Level::Equality, seven, Punct::Equal, shifted)
 }
@@ -143,12 +156,27 @@ fn from_zero(alloc: Global) -> Result<ForHead, Fail> {
     Ok(ForHead::Declaration(declaration(words(alloc, [TypeWord::Int])?, i)))
 }
 
+// `i < 3`
+fn below_three(alloc: Global) -> Result<Expr, Fail> {
+    binary(
+        alloc,
+        Level::Relation,
+        name(alloc, "i")?,
+        Punct::Less,
+        int(3),
+    )
+}
+
+// `i += 1`
+fn one_more(alloc: Global) -> Result<Expr, Fail> {
+    assign(alloc, name(alloc, "i")?, Punct::PlusAssign, int(1))
+}
+
 // `( int i = 0 ; i < 3 ; i += 1 )`
 fn three_times(alloc: Global) -> Result<ForControl, Fail> {
     let head = from_zero(alloc)?;
-    let test = binary(alloc, Level::Relation, name(alloc, "i")?, Punct::Less, int(3))?;
-    let step = assign(alloc, name(alloc, "i")?, Punct::PlusAssign, int(1))?;
-    Ok(control(head, Some(test), Some(step)))
+    let test = below_three(alloc)?;
+    Ok(control(head, Some(test), Some(one_more(alloc)?)))
 }
 
 // `for ( int i = 0 ; i < 3 ; i += 1 ) break ;`
@@ -178,7 +206,12 @@ fn switch(alloc: Global) -> Result<Stmt, Fail> {
 // `if ( x ) ; else ;`
 fn both_ways(alloc: Global) -> Result<Stmt, Fail> {
     let others = items(alloc, [else_last(Stmt::Expression(None, HERE))])?;
-    if_stmt(alloc, name(alloc, "x")?, Stmt::Expression(None, HERE), others)
+    if_stmt(
+        alloc,
+        name(alloc, "x")?,
+        Stmt::Expression(None, HERE),
+        others,
+    )
 }
 
 fn states(out: &mut Items<BlockItem>, statement: Stmt) -> Result<(), Fail> {

@@ -52,7 +52,13 @@ pub fn next(punct: Punct, operand: Expr) -> Next {
     }
 }
 
-pub fn binary(alloc: Global, level: Level, left: Expr, punct: Punct, right: Expr) -> Result<Expr, Fail> {
+pub fn binary(
+    alloc: Global,
+    level: Level,
+    left: Expr,
+    punct: Punct,
+    right: Expr,
+) -> Result<Expr, Fail> {
     let rest = items(alloc, [next(punct, right)])?;
     Ok(Expr::Binary(level, Boxed::new(alloc, left)?, rest))
 }
@@ -103,7 +109,11 @@ pub fn words<const N: usize>(alloc: Global, all: [TypeWord; N]) -> Result<Items<
 }
 
 /// `text` and what stands behind it.
-pub fn declarator(alloc: Global, text: &str, suffixes: Items<DeclaratorSuffix>) -> Result<Declarator, Fail> {
+pub fn declarator(
+    alloc: Global,
+    text: &str,
+    suffixes: Items<DeclaratorSuffix>,
+) -> Result<Declarator, Fail> {
     Ok(Declarator {
         pointers: Items::new(alloc),
         direct: Direct::Named(identifier(alloc, text)?),
@@ -120,7 +130,12 @@ pub fn nothing(alloc: Global) -> Declarator {
 }
 
 /// `text`, or `text` `=` value, with a comma before it where it is not the first.
-pub fn declared(alloc: Global, first: bool, text: &str, value: Option<Expr>) -> Result<InitDeclarator, Fail> {
+pub fn declared(
+    alloc: Global,
+    first: bool,
+    text: &str,
+    value: Option<Expr>,
+) -> Result<InitDeclarator, Fail> {
     let declarator = declarator(alloc, text, Items::new(alloc))?;
     let start = match value {
         Some(value) => Some(Start {
@@ -136,7 +151,10 @@ pub fn declared(alloc: Global, first: bool, text: &str, value: Option<Expr>) -> 
     })
 }
 
-pub fn declaration(specifiers: Items<Specifier>, declarators: Items<InitDeclarator>) -> Declaration {
+pub fn declaration(
+    specifiers: Items<Specifier>,
+    declarators: Items<InitDeclarator>,
+) -> Declaration {
     Declaration {
         specifiers,
         declarators,

@@ -6,8 +6,8 @@ use crate::tests::trees::{
     prefixed, stated, unsigned, words,
 };
 use crate::{
-    BlockItem, Declarator, DeclaratorSuffix, Else, Expr, External, InitDeclarator, Level, Next, Parameter,
-    Prefix, Punct, Specifier, Stmt, Storage, Suffix, TypeWord,
+    BlockItem, Declarator, DeclaratorSuffix, Else, Expr, External, InitDeclarator, Level, Next,
+    Parameter, Prefix, Punct, Specifier, Stmt, Storage, Suffix, TypeWord,
 };
 use std::alloc::Global;
 use std::test::Fail;
@@ -130,7 +130,11 @@ fn declares(
     Ok(())
 }
 
-fn declaration_of(alloc: Global, word: TypeWord, list: Items<InitDeclarator>) -> Result<BlockItem, Fail> {
+fn declaration_of(
+    alloc: Global,
+    word: TypeWord,
+    list: Items<InitDeclarator>,
+) -> Result<BlockItem, Fail> {
     Ok(BlockItem::Declaration(declaration(words(alloc, [word])?, list)))
 }
 
@@ -164,7 +168,13 @@ fn characters(alloc: Global) -> Result<BlockItem, Fail> {
 }
 
 fn is(alloc: Global, text: &str, punct: Punct, value: u8) -> Result<Expr, Fail> {
-    binary(alloc, Level::Equality, name(alloc, text)?, punct, character(value))
+    binary(
+        alloc,
+        Level::Equality,
+        name(alloc, text)?,
+        punct,
+        character(value),
+    )
 }
 
 // `getchar()`
@@ -205,7 +215,11 @@ fn word_begins(alloc: Global, out: &mut Items<BlockItem>) -> Result<(), Fail> {
 }
 
 fn not_in(alloc: Global) -> Result<Expr, Fail> {
-    prefixed(alloc, Prefix::Operator(mark(Punct::Not)), name(alloc, "in")?)
+    prefixed(
+        alloc,
+        Prefix::Operator(mark(Punct::Not)),
+        name(alloc, "in")?,
+    )
 }
 
 // `else if (!in) { in = 1; words++; }`
@@ -215,10 +229,15 @@ fn new_word(alloc: Global) -> Result<Else, Fail> {
     Ok(else_if(not_in(alloc)?, Stmt::Block(block(body))))
 }
 
+// `in = 0;`, behind a test and before each `else`
+fn word_ends(alloc: Global, test: Expr, others: Items<Else>) -> Result<Stmt, Fail> {
+    if_stmt(alloc, test, set(alloc, "in", int(0))?, others)
+}
+
 fn word_test(alloc: Global) -> Result<BlockItem, Fail> {
-    let others = items(alloc, [new_word(alloc)?])?;
-    let body = set(alloc, "in", int(0))?;
-    Ok(BlockItem::Statement(if_stmt(alloc, is_blank(alloc)?, body, others)?))
+    let mut others = Items::new(alloc);
+    others.push(new_word(alloc)?)?;
+    Ok(BlockItem::Statement(word_ends(alloc, is_blank(alloc)?, others)?))
 }
 
 fn line_end(alloc: Global, text: &str, punct: Punct) -> Result<BlockItem, Fail> {
