@@ -192,7 +192,7 @@ def leaf_names(cycle):
     return sorted(names - set(cycle))
 
 
-def uses(crate, cycle):
+def uses(cycle):
     head = next(iter(cycle))
     at = f"Rattle.c_tree.specs.declared.{place(head)}.{head}"
     lines = ["use Rattle.std.specs.Prelude.{◌≡◌, ℕ, Bool, List, Option, map}", "use Rattle.std.proofs.Common.{ap, sym, ◌∙◌}"]
@@ -314,7 +314,7 @@ def equations(family, cycle):
 def family_file(family, title, cycle):
     head = next(iter(cycle))
     out = [GENERATED, f"-- The fold whose steps stand in {family.module}.Of{title}, and one equation for each kind of node."]
-    out += uses("c_tree", cycle)
+    out += uses(cycle)
     steps = [family.steps(kind) for kind in cycle]
     out.append(f"use Rattle.c_tree.specs.{family.module}.Of{title}.{{{', '.join(steps)}}}")
     if family.module == "Spelling":
@@ -337,7 +337,23 @@ FACT_FILES = {
 }
 
 
+def used(lines):
+    """The lines without imports of what no line names."""
+    body = set(re.findall(r"[^\s(){}.,;]+", "\n".join(line for line in lines if not line.startswith("use "))))
+    kept = []
+    for line in lines:
+        listed = re.fullmatch(r"(use [^{]*)\{(.*)\}", line)
+        if listed:
+            names = [name for name in listed[2].split(", ") if name in body or "◌" in name and name.strip("◌") in body]
+            if names:
+                kept.append(f"{listed[1]}{{{', '.join(names)}}}")
+        elif not line.startswith("use ") or line.split(" as ")[-1] in body:
+            kept.append(line)
+    return kept
+
+
 def write(path, lines):
+    lines = used(lines)
     file = SPECS / path
     file.parent.mkdir(parents=True, exist_ok=True)
     file.write_text("\n".join(lines) + "\n")

@@ -1,20 +1,18 @@
 -- Small statements and what is told of each from its parts, for examples. Each condition is the number 0.
-use Rattle.std.specs.Prelude.{◌≡◌, ℕ, Bool, true, false, List, [], ◌∷◌, Option, Some, None, map, refl}
+use Rattle.std.specs.Prelude.{◌≡◌, [], ◌∷◌, Option, None}
 use Rattle.std.proofs.Common.{ap, ◌∙◌}
-use Rattle.c_tree.specs.declared.token.IntKind.TheVariants as kind
-use Rattle.c_tree.specs.declared.expression.Expr.{Expr}
 use Rattle.c_tree.specs.declared.statement.Condition.{Condition}
 use Rattle.c_tree.specs.declared.statement.IfHead.{IfHead}
 use Rattle.c_tree.specs.declared.statement.Stmt.{Stmt}
 use Rattle.c_tree.specs.declared.statement.Stmt.TheVariants as stmt
-use Rattle.c_tree.specs.declared.statement.Block.{Block, roll-Block}
-use Rattle.c_tree.specs.declared.statement.Else.{Else, roll-Else}
+use Rattle.c_tree.specs.declared.statement.Block.{roll-Block}
+use Rattle.c_tree.specs.declared.statement.Else.{roll-Else}
 use Rattle.c_tree.specs.declared.statement.BlockItem.TheOpen.{Stmt-F}
 use Rattle.c_tree.specs.Levels.Names.{Names}
-use Rattle.c_tree.specs.Levels.OfStatements.{level_of_stmt, level_of_else, level_of_block}
-use Rattle.c_tree.specs.Levels.Statements.{stmt_level, else_level, block_level, stmt_level-Expression, stmt_level-If, stmt_level-While, stmt_level-Block, else_level-roll, block_level-roll}
-use Rattle.c_tree.specs.Nesting.OfStatements.{Depth, nested_stmt, nested_else, nested_block}
-use Rattle.c_tree.specs.Nesting.Statements.{stmt_nesting, else_nesting, block_nesting, stmt_nesting-Expression, stmt_nesting-If, stmt_nesting-While, stmt_nesting-Block, else_nesting-roll, block_nesting-roll}
+use Rattle.c_tree.specs.Levels.OfStatements.{level_of_stmt, level_of_else}
+use Rattle.c_tree.specs.Levels.Statements.{stmt_level, stmt_level-Expression, stmt_level-If, stmt_level-While, else_level-roll}
+use Rattle.c_tree.specs.Nesting.OfStatements.{nested_stmt, nested_else, nested_block}
+use Rattle.c_tree.specs.Nesting.Statements.{stmt_nesting, stmt_nesting-Expression, stmt_nesting-If, stmt_nesting-While, stmt_nesting-Block, else_nesting-roll, block_nesting-roll}
 use Rattle.c_tree.specs.Examples.Built.{here, named}
 
 -- `(a)`

@@ -1,10 +1,8 @@
 -- Small expressions and what is told of each from its parts, for examples. All tokens stand at one place.
-use Rattle.std.specs.Prelude.{◌≡◌, ℕ, Bool, true, false, not, List, [], ◌∷◌, Option, None, map, refl}
+use Rattle.std.specs.Prelude.{◌≡◌, ℕ, not, [], ◌∷◌}
 use Rattle.std.proofs.Common.{ap, ◌∙◌}
 use Rattle.c_tree.specs.declared.token.Pos.{Pos}
 use Rattle.c_tree.specs.declared.token.Punct.{Punct}
-use Rattle.c_tree.specs.declared.token.Punct.TheVariants as p
-use Rattle.c_tree.specs.declared.token.IntKind.TheVariants as kind
 use Rattle.c_tree.specs.declared.expression.Identifier.{Identifier}
 use Rattle.c_tree.specs.declared.expression.Mark.{Mark}
 use Rattle.c_tree.specs.declared.expression.Level.{Level}
@@ -12,16 +10,13 @@ use Rattle.c_tree.specs.declared.expression.Expr.{Expr}
 use Rattle.c_tree.specs.declared.expression.Expr.TheVariants as e
 use Rattle.c_tree.specs.declared.expression.Next.{Next, roll-Next}
 use Rattle.c_tree.specs.declared.expression.Branch.{Branch, roll-Branch}
-use Rattle.c_tree.specs.declared.expression.Prefix.{Prefix}
-use Rattle.c_tree.specs.declared.expression.Prefix.TheVariants as prefix
-use Rattle.c_tree.specs.declared.expression.TypeName.{TypeName}
-use Rattle.c_tree.specs.declared.declarator.DeclaratorSuffix.TheOpen.{Expr-F, Prefix-F}
-use Rattle.c_tree.specs.Levels.Names.{Names, With, is_typedef_name}
+use Rattle.c_tree.specs.declared.declarator.DeclaratorSuffix.TheOpen.{Expr-F}
+use Rattle.c_tree.specs.Levels.Names.{Names, is_typedef_name}
 use Rattle.c_tree.specs.Levels.Productions.{primary}
 use Rattle.c_tree.specs.Levels.Facts.{where_good}
-use Rattle.c_tree.specs.Levels.OfTrees.{level_of_expr, level_of_next, level_of_branch, level_of_prefix}
-use Rattle.c_tree.specs.Levels.Trees.{expr_level, next_level, branch_level, prefix_level, type_name_level, expr_level-Name, expr_level-Number, expr_level-Paren, expr_level-Binary, expr_level-Assign, expr_level-Conditional, expr_level-SizeofType, expr_level-Prefixed, next_level-roll, branch_level-roll, prefix_level-Cast, prefix_level-Sizeof}
-use Rattle.c_tree.specs.Nesting.Trees.{expr_nesting, next_nesting, branch_nesting, expr_nesting-Name, expr_nesting-Number, expr_nesting-Paren, expr_nesting-Binary, expr_nesting-Conditional, next_nesting-roll, branch_nesting-roll}
+use Rattle.c_tree.specs.Levels.OfTrees.{level_of_expr, level_of_next, level_of_branch}
+use Rattle.c_tree.specs.Levels.Trees.{expr_level, expr_level-Name, expr_level-Paren, expr_level-Binary, expr_level-Assign, expr_level-Conditional, next_level-roll, branch_level-roll}
+use Rattle.c_tree.specs.Nesting.Trees.{expr_nesting, expr_nesting-Name, expr_nesting-Paren, expr_nesting-Binary, expr_nesting-Conditional, next_nesting-roll, branch_nesting-roll}
 use Rattle.c_tree.specs.Nesting.OfTrees.{nested_expr, nested_next, nested_branch}
 
 abbrev pub here : Pos

@@ -1,5 +1,5 @@
 -- Examples of specifiers, declarators and type names, each computed from the definitions.
-use Rattle.std.specs.Prelude.{◌≡◌, ℕ, Bool, true, false, List, [], ◌∷◌, refl}
+use Rattle.std.specs.Prelude.{◌≡◌, ℕ, true, false, [], ◌∷◌}
 use Rattle.c_tree.specs.declared.specifier.TypeWord.TheVariants as type
 use Rattle.c_tree.specs.Levels.Names.{Names}
 use Rattle.c_tree.specs.Levels.Productions.{prefixed, cast as cast_level, none}

@@ -1,21 +1,15 @@
 -- Small declarators, type names and units, and what is told of each from its parts, for examples.
-use Rattle.std.specs.Prelude.{◌≡◌, ℕ, Bool, true, false, not, List, [], ◌∷◌, Option, Some, None, map, refl}
+use Rattle.std.specs.Prelude.{◌≡◌, ℕ, true, [], ◌∷◌, None}
 use Rattle.std.proofs.Common.{ap, ◌∙◌}
-use Rattle.c_tree.specs.declared.token.Pos.{Pos}
-use Rattle.c_tree.specs.declared.token.IntKind.TheVariants as kind
-use Rattle.c_tree.specs.declared.expression.Identifier.{Identifier}
 use Rattle.c_tree.specs.declared.expression.Expr.{Expr}
 use Rattle.c_tree.specs.declared.expression.Expr.TheVariants as e
-use Rattle.c_tree.specs.declared.expression.Prefix.{Prefix}
 use Rattle.c_tree.specs.declared.expression.Prefix.TheVariants as prefix
 use Rattle.c_tree.specs.declared.expression.TypeName.{TypeName, roll-TypeName}
 use Rattle.c_tree.specs.declared.specifier.Storage.TheVariants as storage
 use Rattle.c_tree.specs.declared.specifier.TypeWord.{TypeWord}
-use Rattle.c_tree.specs.declared.specifier.TypeWord.TheVariants as type
 use Rattle.c_tree.specs.declared.specifier.Specifier.{Specifier}
 use Rattle.c_tree.specs.declared.specifier.Specifier.TheVariants as specifier
 use Rattle.c_tree.specs.declared.specifier.Enumerator.TheVariants as enumerator
-use Rattle.c_tree.specs.declared.declarator.Direct.{Direct}
 use Rattle.c_tree.specs.declared.declarator.Direct.TheVariants as direct
 use Rattle.c_tree.specs.declared.declarator.DeclaratorSuffix.{DeclaratorSuffix}
 use Rattle.c_tree.specs.declared.declarator.DeclaratorSuffix.TheVariants as suffix
@@ -23,9 +17,9 @@ use Rattle.c_tree.specs.declared.declarator.Declarator.{Declarator, roll-Declara
 use Rattle.c_tree.specs.declared.declarator.Parameter.{Parameter, roll-Parameter}
 use Rattle.c_tree.specs.declared.declarator.DeclaratorSuffix.TheOpen.{DeclaratorSuffix-F, Direct-F, Expr-F, Prefix-F, Specifier-F, Enumerator-F}
 use Rattle.c_tree.specs.Levels.Names.{Names, is_typedef_name}
-use Rattle.c_tree.specs.Levels.Facts.{SpecifierKind, Storing, Naming, SuffixFacts}
+use Rattle.c_tree.specs.Levels.Facts.{Storing, Naming}
 use Rattle.c_tree.specs.Levels.OfTrees.{level_of_expr, level_of_prefix, level_of_type_name, level_of_specifier, level_of_enumerator, level_of_declarator, level_of_direct, level_of_declarator_suffix, level_of_parameter, kind_of_word}
-use Rattle.c_tree.specs.Levels.Trees.{expr_level, type_name_level, prefix_level, specifier_level, declarator_level, direct_level, declarator_suffix_level, expr_level-Number, expr_level-SizeofType, expr_level-Prefixed, prefix_level-Cast, prefix_level-Sizeof, type_name_level-roll, specifier_level-Word, specifier_level-Storage, specifier_level-Const, specifier_level-TypedefName, specifier_level-Enum, enumerator_level-Plain, declarator_level-roll, direct_level-Nothing, direct_level-Named, direct_level-Grouped, declarator_suffix_level-Parameters, parameter_level-roll}
+use Rattle.c_tree.specs.Levels.Trees.{expr_level, type_name_level, prefix_level, specifier_level, declarator_level, declarator_suffix_level, expr_level-SizeofType, expr_level-Prefixed, prefix_level-Cast, prefix_level-Sizeof, type_name_level-roll, specifier_level-Word, specifier_level-Storage, specifier_level-TypedefName, specifier_level-Enum, enumerator_level-Plain, declarator_level-roll, direct_level-Nothing, direct_level-Named, direct_level-Grouped, declarator_suffix_level-Parameters, parameter_level-roll}
 use Rattle.c_tree.specs.Examples.Built.{here, letter}
 
 -- ---- specifiers

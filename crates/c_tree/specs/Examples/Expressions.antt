@@ -1,10 +1,9 @@
 -- Examples of expressions, each computed from the definitions.
-use Rattle.std.specs.Prelude.{◌≡◌, ℕ, ◌+◌, Bool, true, false, List, [], ◌∷◌, refl}
+use Rattle.std.specs.Prelude.{◌≡◌, true, false, [], ◌∷◌}
 use Rattle.c_tree.specs.declared.token.Punct.TheVariants as p
 use Rattle.c_tree.specs.declared.expression.Level.TheVariants as level
 use Rattle.c_tree.specs.declared.expression.Expr.{Expr}
-use Rattle.c_tree.specs.Levels.Names.{Names}
-use Rattle.c_tree.specs.Levels.Productions.{primary, sum, bit_and, conditional, assignment, none}
+use Rattle.c_tree.specs.Levels.Productions.{primary, bit_and, conditional, assignment, none}
 use Rattle.c_tree.specs.Levels.Trees.{expr_level}
 use Rattle.c_tree.specs.Nesting.Trees.{expr_nesting}
 use Rattle.c_tree.specs.Examples.Built.{named, named-level, named-nesting, paren, paren-level, paren-nesting, binary, binary-level, binary-nesting, assigned, assigned-level, chosen, chosen-level, chosen-nesting}

@@ -1,6 +1,5 @@
 -- Examples of statements, each computed from the definitions.
-use Rattle.std.specs.Prelude.{◌≡◌, ℕ, Bool, true, false, List, [], ◌∷◌, Option, Some, None, refl}
-use Rattle.c_tree.specs.Levels.Names.{Names}
+use Rattle.std.specs.Prelude.{◌≡◌, true, false, [], Some, None}
 use Rattle.c_tree.specs.Levels.Statements.{stmt_level}
 use Rattle.c_tree.specs.Nesting.Statements.{stmt_nesting}
 use Rattle.c_tree.specs.Examples.Built.{named-level, named-nesting}

@@ -1,10 +1,8 @@
 -- Examples of units, each computed from the definitions.
-use Rattle.std.specs.Prelude.{◌≡◌, ℕ, ◌≤◌, Bool, true, false, List, [], ◌∷◌, Option, Some, None, map, refl}
-use Rattle.std.proofs.Common.{ap, ◌∙◌, arith}
+use Rattle.std.specs.Prelude.{◌≡◌, ℕ, true, false, List, [], ◌∷◌, Some, None, refl}
+use Rattle.std.proofs.Common.{ap, ◌∙◌}
 use Rattle.c_tree.specs.declared.specifier.Specifier.{Specifier}
 use Rattle.c_tree.specs.declared.specifier.TypeWord.TheVariants as type
-use Rattle.c_tree.specs.declared.declarator.Declarator.{Declarator}
-use Rattle.c_tree.specs.declared.declaration.Declaration.{Declaration}
 use Rattle.c_tree.specs.declared.expression.Expr.{Expr}
 use Rattle.c_tree.specs.declared.statement.Stmt.{Stmt}
 use Rattle.c_tree.specs.declared.statement.Stmt.TheVariants as stmt

@@ -1,5 +1,5 @@
 -- What is told of the parts of a tree, and how it is put together.
-use Rattle.std.specs.Prelude.{ℕ, ◌≤◌, Bool, true, false, not, ◌&&◌, ◌||◌, if◌then◌else◌, nat_le, List, [], ◌∷◌, ◌++◌, Option, Some, None, is_some, is_none}
+use Rattle.std.specs.Prelude.{ℕ, Bool, true, false, not, ◌&&◌, ◌||◌, nat_le, List, [], ◌∷◌, Option, Some, None, is_some, is_none}
 use Rattle.c_tree.specs.declared.token.Punct.{Punct}
 use Rattle.c_tree.specs.declared.token.Punct.TheVariants as p
 use Rattle.c_tree.specs.Levels.Names.{Names}
@@ -7,10 +7,12 @@ use Rattle.c_tree.specs.Levels.Productions.{unary, conditional, assignment, none
 
 -- ---- lists
 
+-- a list has an item
 abbrev pub filled : {A : Type 0} → List A → Bool
 filled [] = false
 filled (x ∷ xs) = true
 
+-- each holds
 abbrev pub all_good : List Bool → Bool
 all_good [] = true
 all_good (b ∷ bs) = b && all_good bs
@@ -20,6 +22,7 @@ pub record ListedFacts : Type 0 where
   pub comma : Bool
   pub good : Bool
 
+-- a comma stands before each, and each is as the grammar has it
 abbrev pub rest_listed : List ListedFacts → Bool
 rest_listed [] = true
 rest_listed (x ∷ xs) = x.comma && (x.good && rest_listed xs)
@@ -36,6 +39,7 @@ abbrev pub where_good : Bool → ℕ → ℕ
 where_good true n = n
 where_good false n = none
 
+-- two numbers are equal
 abbrev pub same : ℕ → ℕ → Bool
 same a b = nat_le a b && nat_le b a
 
@@ -53,6 +57,7 @@ abbrev pub targets : ℕ → List Operand → Bool
 targets first [] = nat_le first conditional
 targets first (n ∷ ns) = nat_le first unary && (same (joins n.0) assignment && targets n.1 ns)
 
+-- what a prefix is in a run (C11 6.5.3, 6.5.4)
 pub data PrefixKind : Type 0 where
   -- no prefix of the grammar
   Wrong : PrefixKind
@@ -63,6 +68,7 @@ pub data PrefixKind : Type 0 where
   -- `(` type name `)`
   Typed : PrefixKind
 
+-- what a punctuator is as a prefix (C11 6.5.3)
 abbrev pub kind_of_mark : Punct → PrefixKind
 kind_of_mark p.Ampersand = Loose
 kind_of_mark p.Star = Loose
@@ -82,12 +88,14 @@ runs_on tight (Loose ∷ more) = runs_on false more
 runs_on tight (Tight ∷ more) = runs_on true more
 runs_on tight (Typed ∷ more) = not tight && runs_on false more
 
+-- a run begins with `(` type name `)`
 abbrev pub begins_typed : List PrefixKind → Bool
 begins_typed (Typed ∷ more) = true
 begins_typed _ = false
 
 -- ---- specifiers
 
+-- what a specifier is (C11 6.7)
 pub data SpecifierKind : Type 0 where
   -- a storage word, and whether it is `typedef`
   Storing : Bool → SpecifierKind
@@ -109,26 +117,31 @@ specify typed (Voiding ∷ more) = specify true more
 specify typed (Typing good ∷ more) = good && specify true more
 specify typed (Naming visible ∷ more) = visible && (not typed && specify true more)
 
+-- a type word, a struct, an enum or a typedef name is among them
 abbrev pub names_type : List SpecifierKind → Bool
 names_type [] = false
 names_type (Storing is_typedef ∷ more) = names_type more
 names_type (Qualifying ∷ more) = names_type more
 names_type _ = true
 
+-- a storage word is among them
 abbrev pub has_storage : List SpecifierKind → Bool
 has_storage [] = false
 has_storage (Storing is_typedef ∷ more) = true
 has_storage (_ ∷ more) = has_storage more
 
+-- `typedef` is among them
 abbrev pub has_typedef : List SpecifierKind → Bool
 has_typedef [] = false
 has_typedef (Storing is_typedef ∷ more) = is_typedef || has_typedef more
 has_typedef (_ ∷ more) = has_typedef more
 
+-- they are the one word `void`
 abbrev pub is_void : List SpecifierKind → Bool
 is_void (Voiding ∷ []) = true
 is_void _ = false
 
+-- what is told of specifiers in a row
 pub record SpecifiersFacts : Type 0 where
   -- at least one, each as the grammar has it
   pub good : Bool
@@ -141,6 +154,7 @@ pub record SpecifiersFacts : Type 0 where
   -- they are the one word `void`
   pub is_void : Bool
 
+-- the same, from what is told of each
 abbrev pub facts_of_specifiers : List SpecifierKind → SpecifiersFacts
 facts_of_specifiers all = record { good = filled all && specify false all; names_type = names_type all; has_storage = has_storage all; has_typedef = has_typedef all; is_void = is_void all }
 
@@ -152,10 +166,12 @@ pub data Beside : Type 0 where
   Other : Beside
   Listing : Names → Beside
 
+-- what is told of an array or a parameter list behind a declarator
 pub record SuffixFacts : Type 0 where
   pub good : Bool
   pub beside : Beside
 
+-- what is told of a declarator (C11 6.7.6)
 pub record DeclaratorFacts : Type 0 where
   -- each part is as the grammar has it, and no brackets are round nothing
   pub good : Bool
@@ -186,6 +202,7 @@ declares Declaring typed d = d.good && (is_some d.name && (typed || not d.names_
 declares Abstract typed d = d.good && is_none d.name
 declares Parameter typed d = d.good && (not d.may_be_parameters && (typed || not d.names_typedef))
 
+-- a name as one that is declared, where there is one
 abbrev pub names_of : Bool → Option (List ℕ) → Names
 names_of is_typedef None = []
 names_of is_typedef (Some text) = (text, is_typedef) ∷ []
@@ -199,10 +216,12 @@ pub record MemberDeclaratorFacts : Type 0 where
   pub comma : Bool
   pub declarator : DeclaratorFacts
 
+-- members' declarators as items of a list, behind specifiers that name a type or do not
 abbrev pub listed_members : Bool → List MemberDeclaratorFacts → List ListedFacts
 listed_members typed [] = []
 listed_members typed (m ∷ ms) = record { comma = m.comma; good = declares Declaring typed m.declarator } ∷ listed_members typed ms
 
+-- each suffix is as the grammar has it
 abbrev pub suffixes_good : List SuffixFacts → Bool
 suffixes_good [] = true
 suffixes_good (x ∷ xs) = x.good && suffixes_good xs
@@ -215,6 +234,7 @@ nearest Alone (x ∷ xs) pointers = x.beside
 nearest Other suffixes pointers = Other
 nearest (Listing names) suffixes pointers = Listing names
 
+-- what is told of a parameter (C11 6.7.6.3)
 pub record ParameterFacts : Type 0 where
   pub comma : Bool
   pub good : Bool
@@ -223,6 +243,7 @@ pub record ParameterFacts : Type 0 where
   -- what it declares
   pub names : Names
 
+-- parameters as items of a list
 abbrev pub listed_parameters : List ParameterFacts → List ListedFacts
 listed_parameters [] = []
 listed_parameters (x ∷ xs) = record { comma = x.comma; good = x.good } ∷ listed_parameters xs

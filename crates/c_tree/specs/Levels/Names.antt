@@ -1,5 +1,5 @@
 -- The names that are visible at a place of a source, and what is told of a tree under them (C11 6.2.1).
-use Rattle.std.specs.Prelude.{ℕ, Bool, true, false, List, [], ◌∷◌, ◌++◌, Option, Some, None, find, reverse, unwrap_or}
+use Rattle.std.specs.Prelude.{ℕ, Bool, false, List, [], ◌∷◌, ◌++◌, find, reverse, unwrap_or}
 use Rattle.std.specs.Option.{option_map}
 use Rattle.std.specs.Str.{bytes_eq}
 
@@ -19,6 +19,7 @@ With A = Names → A × Names
 abbrev pub told : {A : Type 0} → A → With A
 told a names = (a, [])
 
+-- what is told, read by a function
 abbrev pub by : {A B : Type 0} → (A → B) → With A → With B
 by f tree names = let first = tree names in (f first.0, first.1)
 

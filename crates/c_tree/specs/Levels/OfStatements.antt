@@ -1,6 +1,6 @@
 -- Whether one node of a statement is as the grammar has it (C11 6.8). Scopes are a block, an `if`, `while`,
 -- `do`, `for` and `switch` statement, and each of their bodies (C11 6.8.4p3, 6.8.5p5).
-use Rattle.std.specs.Prelude.{ℕ, Bool, true, false, not, ◌&&◌, nat_le, List, Option, Some, None, is_none}
+use Rattle.std.specs.Prelude.{ℕ, Bool, true, false, not, ◌&&◌, nat_le, Option, Some, None, is_none}
 use Rattle.c_tree.specs.declared.expression.Expr.{Expr}
 use Rattle.c_tree.specs.declared.statement.Condition.{Condition}
 use Rattle.c_tree.specs.declared.statement.IfHead.{IfHead}
@@ -15,6 +15,7 @@ use Rattle.c_tree.specs.Levels.StatementFacts.{StatementFacts, closed, ElseFacts
 use Rattle.c_tree.specs.Levels.Trees.{expr_level}
 use Rattle.c_tree.specs.Levels.Declarations.{declaration_level}
 
+-- whether an expression is of a production
 abbrev pub within : ℕ → Expr → With Bool
 within production value = by (λ n. nat_le n production) (expr_level value)
 
@@ -23,13 +24,16 @@ abbrev pub value_level : Option Expr → With Bool
 value_level None = told true
 value_level (Some value) = within comma value
 
+-- whether a condition is an expression
 abbrev pub condition_level : Condition → With Bool
 condition_level c = within comma c.value
 
+-- whether what stands first in the brackets of `for` is as the grammar has it
 abbrev pub for_head_level : ForHead → With Bool
 for_head_level (head.Expression value semicolon) = value_level value
 for_head_level (head.Declaration declaration) = declaration_level declaration
 
+-- whether the brackets of `for` are as the grammar has them
 abbrev pub for_control_level : ForControl → With Bool
 for_control_level c = by (λ r. r.0 && (r.1.0 && r.1.1)) (for_head_level c.head then (value_level c.condition then value_level c.step))
 
@@ -38,6 +42,7 @@ abbrev pub if_head_level : Option IfHead → With Bool
 if_head_level None = told true
 if_head_level (Some h) = condition_level h.condition
 
+-- what is told of a statement (C11 6.8)
 abbrev pub level_of_stmt : StmtParts → With StatementFacts
 level_of_stmt (Stmt-F.Block block) = by (λ b. closed (b.good && not b.has_label)) (scoped block)
 level_of_stmt (Stmt-F.Expression value semicolon) = by closed (value_level value)
@@ -58,9 +63,11 @@ level_of_stmt (Stmt-F.Return at value semicolon) = by closed (value_level value)
 abbrev pub level_of_else : ElseParts → With ElseFacts
 level_of_else e = by (λ r. record { good = r.0 && r.1.good; is_last = is_none e.head; body = r.1 }) (if_head_level e.head then scoped e.body)
 
+-- what is told of a block: its items in a row (C11 6.8.2)
 abbrev pub level_of_block : BlockParts → With BlockFacts
 level_of_block b = by facts_of_block (in_row b.items)
 
+-- what is told of an item of a block (C11 6.8.2, 6.8.1)
 abbrev pub level_of_block_item : BlockItemParts → With ItemFacts
 level_of_block_item (BlockItem-F.Declaration declaration) = by (λ good. record { good = good; is_label = false }) (declaration_level declaration)
 level_of_block_item (BlockItem-F.Statement statement) = by (λ s. record { good = s.good; is_label = false }) statement

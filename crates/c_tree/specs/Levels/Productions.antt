@@ -1,13 +1,15 @@
 -- The productions of expressions, tightest first, each by its number (C11 6.5).
-use Rattle.std.specs.Prelude.{ℕ, Bool, true, false}
+use Rattle.std.specs.Prelude.{ℕ}
 use Rattle.c_tree.specs.declared.token.Punct.{Punct}
 use Rattle.c_tree.specs.declared.token.Punct.TheVariants as p
 use Rattle.c_tree.specs.declared.expression.Level.{Level}
 use Rattle.c_tree.specs.declared.expression.Level.TheVariants as level
 
+-- names, constants, strings and brackets (C11 6.5.1)
 abbrev pub primary : ℕ
 primary = 0
 
+-- a primary expression with suffixes (C11 6.5.2)
 abbrev pub postfix : ℕ
 postfix = 1
 
@@ -19,45 +21,59 @@ prefixed = 2
 abbrev pub unary : ℕ
 unary = 3
 
+-- a run that begins with `(` type name `)` (C11 6.5.4)
 abbrev pub cast : ℕ
 cast = 4
 
+-- `*`, `/`, `%` (C11 6.5.5)
 abbrev pub product : ℕ
 product = 5
 
+-- `+`, `-` (C11 6.5.6)
 abbrev pub sum : ℕ
 sum = 6
 
+-- `<<`, `>>` (C11 6.5.7)
 abbrev pub shift : ℕ
 shift = 7
 
+-- `<`, `>`, `<=`, `>=` (C11 6.5.8)
 abbrev pub relation : ℕ
 relation = 8
 
+-- `==`, `!=` (C11 6.5.9)
 abbrev pub equality : ℕ
 equality = 9
 
+-- `&` (C11 6.5.10)
 abbrev pub bit_and : ℕ
 bit_and = 10
 
+-- `^` (C11 6.5.11)
 abbrev pub bit_xor : ℕ
 bit_xor = 11
 
+-- `|` (C11 6.5.12)
 abbrev pub bit_or : ℕ
 bit_or = 12
 
+-- `&&` (C11 6.5.13)
 abbrev pub and : ℕ
 and = 13
 
+-- `||` (C11 6.5.14)
 abbrev pub or : ℕ
 or = 14
 
+-- `? :` (C11 6.5.15)
 abbrev pub conditional : ℕ
 conditional = 15
 
+-- assignments (C11 6.5.16)
 abbrev pub assignment : ℕ
 assignment = 16
 
+-- expressions with commas between (C11 6.5.17)
 abbrev pub comma : ℕ
 comma = 17
 

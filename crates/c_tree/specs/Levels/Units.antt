@@ -1,16 +1,17 @@
 -- Whether a unit is as the grammar has it (C11 6.9).
-use Rattle.std.specs.Prelude.{ℕ, Bool, true, false, not, ◌&&◌, List, [], ◌∷◌, ◌++◌, Option, is_some, map}
+use Rattle.std.specs.Prelude.{Bool, true, false, not, ◌&&◌, [], ◌++◌, map}
 use Rattle.c_tree.specs.declared.unit.Definition.{Definition}
 use Rattle.c_tree.specs.declared.unit.External.{External}
 use Rattle.c_tree.specs.declared.unit.External.TheVariants as external
 use Rattle.c_tree.specs.declared.unit.Unit as tree
-use Rattle.c_tree.specs.Levels.Names.{Names, With, by, ◌then◌, leads_to, in_row, scoped, declaring}
-use Rattle.c_tree.specs.Levels.Facts.{filled, all_good, SpecifiersFacts, Beside, Alone, Other, Listing, DeclaratorFacts, Declaring, declares, declared}
+use Rattle.c_tree.specs.Levels.Names.{Names, With, by, leads_to, in_row, scoped, declaring}
+use Rattle.c_tree.specs.Levels.Facts.{filled, all_good, Beside, Listing, DeclaratorFacts, Declaring, declares, declared}
 use Rattle.c_tree.specs.Levels.StatementFacts.{BlockFacts}
 use Rattle.c_tree.specs.Levels.Trees.{declarator_level}
 use Rattle.c_tree.specs.Levels.Declarations.{specifiers_level, declaration_level}
 use Rattle.c_tree.specs.Levels.Statements.{block_level}
 
+-- a parameter list stands beside the name
 abbrev pub is_listing : Beside → Bool
 is_listing (Listing names) = true
 is_listing _ = false
@@ -30,6 +31,7 @@ definition_level d = leads_to (specifiers_level d.specifiers) (λ s.
     leads_to (declaring (declared s.has_typedef) (declarator_level d.declarator)) (λ f.
     by (λ body. s.good && (declares Declaring s.names_type f && (is_listing f.beside && (body.good && not body.has_label)))) (body_level f (block_level d.body))))
 
+-- whether an external declaration is as the grammar has it
 abbrev pub external_level : External → With Bool
 external_level (external.Declaration declaration) = declaration_level declaration
 external_level (external.Definition definition) = definition_level definition

@@ -1,13 +1,13 @@
 -- Written by tools/tree_equations.py.
 -- The fold whose steps stand in Nesting.OfInitialisers, and one equation for each kind of node.
-use Rattle.std.specs.Prelude.{◌≡◌, ℕ, Bool, List, Option, map}
+use Rattle.std.specs.Prelude.{◌≡◌, ℕ, List, Option, map}
 use Rattle.std.proofs.Common.{ap, sym, ◌∙◌}
 use Rattle.c_tree.specs.declared.expression.Expr.{Expr}
 use Rattle.c_tree.specs.declared.token.Pos.{Pos}
 use Rattle.c_tree.specs.declared.declaration.Initialiser.{Initialiser, roll-Initialiser}
 use Rattle.c_tree.specs.declared.declaration.Initialiser.TheVariants as initialiser
 use Rattle.c_tree.specs.declared.declaration.InitialiserItem.{InitialiserItem, out-InitialiserItem, roll-InitialiserItem, roll-out-InitialiserItem}
-use Rattle.c_tree.specs.declared.declaration.Initialiser.TheOpen.{Initialiser-F, InitialiserItem-F}
+use Rattle.c_tree.specs.declared.declaration.Initialiser.TheOpen.{Initialiser-F}
 use Rattle.c_tree.specs.Layers.{InitialiserLayer, InitialiserItemLayer}
 use Rattle.c_tree.specs.declared.declaration.Initialiser.TheFolds.{fold-Initialiser, fold-roll-Initialiser, map-Initialiser, fold-InitialiserItem, fold-roll-InitialiserItem, map-InitialiserItem}
 use Rattle.c_tree.specs.Nesting.OfInitialisers.{nested_initialiser, nested_initialiser_item}

@@ -1,12 +1,11 @@
 -- Written by tools/tree_equations.py.
 -- The fold whose steps stand in Nesting.OfStatements, and one equation for each kind of node.
-use Rattle.std.specs.Prelude.{◌≡◌, ℕ, Bool, List, Option, map}
+use Rattle.std.specs.Prelude.{◌≡◌, ℕ, List, Option, map}
 use Rattle.std.proofs.Common.{ap, sym, ◌∙◌}
 use Rattle.c_tree.specs.declared.statement.Condition.{Condition}
 use Rattle.c_tree.specs.declared.declaration.Declaration.{Declaration}
 use Rattle.c_tree.specs.declared.expression.Expr.{Expr}
 use Rattle.c_tree.specs.declared.statement.ForControl.{ForControl}
-use Rattle.c_tree.specs.declared.statement.IfHead.{IfHead}
 use Rattle.c_tree.specs.declared.token.Pos.{Pos}
 use Rattle.c_tree.specs.declared.statement.BlockItem.{BlockItem, roll-BlockItem}
 use Rattle.c_tree.specs.declared.statement.BlockItem.TheVariants as block_item
@@ -14,7 +13,7 @@ use Rattle.c_tree.specs.declared.statement.Stmt.{Stmt, roll-Stmt}
 use Rattle.c_tree.specs.declared.statement.Stmt.TheVariants as stmt
 use Rattle.c_tree.specs.declared.statement.Block.{Block, out-Block, roll-Block, roll-out-Block}
 use Rattle.c_tree.specs.declared.statement.Else.{Else, out-Else, roll-Else, roll-out-Else}
-use Rattle.c_tree.specs.declared.statement.BlockItem.TheOpen.{BlockItem-F, Stmt-F, Block-F, Else-F}
+use Rattle.c_tree.specs.declared.statement.BlockItem.TheOpen.{BlockItem-F, Stmt-F}
 use Rattle.c_tree.specs.Layers.{BlockItemLayer, StmtLayer, BlockLayer, ElseLayer}
 use Rattle.c_tree.specs.declared.statement.BlockItem.TheFolds.{fold-BlockItem, fold-roll-BlockItem, map-BlockItem, fold-Stmt, fold-roll-Stmt, map-Stmt, fold-Block, fold-roll-Block, map-Block, fold-Else, fold-roll-Else, map-Else}
 use Rattle.c_tree.specs.Nesting.OfStatements.{nested_block_item, nested_stmt, nested_block, nested_else}

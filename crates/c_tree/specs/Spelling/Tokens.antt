@@ -1,5 +1,5 @@
 -- Tokens and lists of tokens, from which spellings are made.
-use Rattle.std.specs.Prelude.{ℕ, List, [], ◌∷◌, ◌++◌, Option, Some, None, map}
+use Rattle.std.specs.Prelude.{List, [], ◌∷◌, ◌++◌, Option, Some, None, map}
 use Rattle.c_tree.specs.declared.token.Pos.{Pos}
 use Rattle.c_tree.specs.declared.token.Punct.{Punct}
 use Rattle.c_tree.specs.declared.token.Punct.TheVariants as p
@@ -21,18 +21,23 @@ use Rattle.c_tree.specs.declared.specifier.TypeWord.TheVariants as type
 abbrev pub Spelling : Type 0
 Spelling = List Token
 
+-- a token of this kind at this place
 abbrev pub token : TokenKind → Pos → Token
 token kind place = record { kind = kind; place = place }
 
+-- a punctuator at this place
 abbrev pub punct : Punct → Pos → Token
 punct mark place = token (k.Punct mark) place
 
+-- a keyword at this place
 abbrev pub keyword : Keyword → Pos → Token
 keyword text place = token (k.Keyword text) place
 
+-- the token of a punctuator with its place
 abbrev pub mark : Mark → Token
 mark m = punct m.punct m.place
 
+-- the token of a name with its place
 abbrev pub name : Identifier → Token
 name id = token (k.Name id.text) id.place
 
@@ -46,9 +51,11 @@ abbrev pub joined : List Spelling → Spelling
 joined [] = []
 joined (s ∷ ss) = s ++ joined ss
 
+-- a string literal
 abbrev pub literal_spelling : Literal → Spelling
 literal_spelling l = token (k.Bytes l.bytes) l.place ∷ []
 
+-- tokens between two
 abbrev pub between : Token → Spelling → Token → Spelling
 between first inner last = first ∷ (inner ++ last ∷ [])
 
@@ -74,6 +81,7 @@ abbrev pub name_at : Option Identifier → Spelling
 name_at None = []
 name_at (Some id) = name id ∷ []
 
+-- `const` behind a `*`
 abbrev pub const_spelling : Pos → Spelling
 const_spelling place = keyword word.Const place ∷ []
 
@@ -81,6 +89,7 @@ const_spelling place = keyword word.Const place ∷ []
 abbrev pub pointer_spelling : Pointer → Spelling
 pointer_spelling one = punct p.Star one.star ∷ joined (map const_spelling one.constants)
 
+-- the keyword of a storage word (C11 6.7.1)
 abbrev pub storage_word : Storage → Keyword
 storage_word storage.Typedef = word.Typedef
 storage_word storage.Extern = word.Extern
@@ -88,6 +97,7 @@ storage_word storage.Static = word.Static
 storage_word storage.Auto = word.Auto
 storage_word storage.Register = word.Register
 
+-- the keyword of a type word (C11 6.7.2)
 abbrev pub type_word : TypeWord → Keyword
 type_word type.Void = word.Void
 type_word type.Char = word.Char

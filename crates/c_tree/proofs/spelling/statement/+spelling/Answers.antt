@@ -25,10 +25,10 @@ pub stmt-returns-in_ok-block-in-Switch : goal.stmt-returns-in_ok-block-in-Switch
 stmt-returns-in_ok-block-in-Switch t c = rw (c.in-Switch.is, stmt_spelling-Switch, c.in_ok-block-in-Switch.ensures, c.in_ok-condition-in-Switch.ensures, c.in_ok-keyword-in-Switch.ensures) (simp (kinds-append, append_assoc))
 
 pub stmt-returns-in_ok-punct-in-Break : goal.stmt-returns-in_ok-punct-in-Break
-stmt-returns-in_ok-punct-in-Break t c = rw (c.in-Break.is, stmt_spelling-Break, c.in_ok-punct-in-Break.ensures, c.in_ok-keyword-in-Break.ensures) (simp (kinds-append, append_assoc))
+stmt-returns-in_ok-punct-in-Break t c = rw (c.in-Break.is, stmt_spelling-Break, c.in_ok-punct-in-Break.ensures, c.in_ok-keyword-in-Break.ensures) (simp append_assoc)
 
 pub stmt-returns-in_ok-punct-in-Continue : goal.stmt-returns-in_ok-punct-in-Continue
-stmt-returns-in_ok-punct-in-Continue t c = rw (c.in-Continue.is, stmt_spelling-Continue, c.in_ok-punct-in-Continue.ensures, c.in_ok-keyword-in-Continue.ensures) (simp (kinds-append, append_assoc))
+stmt-returns-in_ok-punct-in-Continue t c = rw (c.in-Continue.is, stmt_spelling-Continue, c.in_ok-punct-in-Continue.ensures, c.in_ok-keyword-in-Continue.ensures) (simp append_assoc)
 
 pub stmt-returns-in_ok-punct-in-Return : goal.stmt-returns-in_ok-punct-in-Return
 stmt-returns-in_ok-punct-in-Return t c = rw (c.in-Return.is, stmt_spelling-Return, c.in_ok-punct-in-Return.ensures, c.in_ok-value_at-in-Return.ensures, c.in_ok-keyword-in-Return.ensures) (simp (kinds-append, append_assoc))
@@ -44,7 +44,7 @@ block-returns t c = rw (block_spelling-is c.args.tree.now, c.in_ok-punct-2.ensur
 pub block_items-loop-one-preserved : goal.block_items-loop-one-preserved
 block_items-loop-one-preserved t c =
     let more = joined_more block_item_spelling c.args.all.now c.loop-one.one-index c.one-item.result c.loop-one-test.true c.one-item.is in
-    rw (more, c.in_ok-block_item.ensures, c.loop-one.invariant) (simp (kinds-append, append_assoc))
+    rw (more, c.in_ok-block_item.ensures, c.loop-one.invariant) (simp append_assoc)
 
 pub block_item-returns-in_ok-declaration-in-Declaration : goal.block_item-returns-in_ok-declaration-in-Declaration
 block_item-returns-in_ok-declaration-in-Declaration t c = rw (c.in-Declaration.is, block_item_spelling-Declaration, c.in_ok-declaration-in-Declaration.ensures)
@@ -56,4 +56,4 @@ pub block_item-returns-in_ok-punct-in-Case : goal.block_item-returns-in_ok-punct
 block_item-returns-in_ok-punct-in-Case t c = rw (c.in-Case.is, block_item_spelling-Case, c.in_ok-punct-in-Case.ensures, c.in_ok-expr-in-Case.ensures, c.in_ok-keyword-in-Case.ensures) (simp (kinds-append, append_assoc))
 
 pub block_item-returns-in_ok-punct-in-Default : goal.block_item-returns-in_ok-punct-in-Default
-block_item-returns-in_ok-punct-in-Default t c = rw (c.in-Default.is, block_item_spelling-Default, c.in_ok-punct-in-Default.ensures, c.in_ok-keyword-in-Default.ensures) (simp (kinds-append, append_assoc))
+block_item-returns-in_ok-punct-in-Default t c = rw (c.in-Default.is, block_item_spelling-Default, c.in_ok-punct-in-Default.ensures, c.in_ok-keyword-in-Default.ensures) (simp append_assoc)

@@ -1,4 +1,4 @@
-use Rattle.std.proofs.Common.{◌≡◌, ◌++◌, append_assoc, append-nil, sym}
+use Rattle.std.proofs.Common.{append_assoc, append-nil, sym}
 use Rattle.c_tree.specs.Spelling.Trees.{branch_spelling, branch_spelling-is, declarator_spelling-is, declarator_suffix_spelling, declarator_suffix_spelling-Array, declarator_suffix_spelling-ArrayOf, declarator_suffix_spelling-Empty, declarator_suffix_spelling-Parameters, declarator_suffix_spelling-Void, direct_spelling-Grouped, direct_spelling-Named, direct_spelling-Nothing, enumerator_spelling, enumerator_spelling-Plain, enumerator_spelling-Valued, expr_spelling-Assign, expr_spelling-Binary, expr_spelling-Char, expr_spelling-Comma, expr_spelling-Conditional, expr_spelling-Name, expr_spelling-Number, expr_spelling-Paren, expr_spelling-Postfix, expr_spelling-Prefixed, expr_spelling-SizeofType, expr_spelling-Strings, member_declarator_spelling, member_declarator_spelling-is, member_spelling, member_spelling-is, next_spelling, next_spelling-is, parameter_spelling, parameter_spelling-is, prefix_spelling, prefix_spelling-Cast, prefix_spelling-Operator, prefix_spelling-Sizeof, specifier_spelling, specifier_spelling-Const, specifier_spelling-Enum, specifier_spelling-EnumTag, specifier_spelling-Storage, specifier_spelling-Struct, specifier_spelling-StructTag, specifier_spelling-TypedefName, specifier_spelling-Word, suffix_spelling, suffix_spelling-Arrow, suffix_spelling-Call, suffix_spelling-CallWith, suffix_spelling-Decrement, suffix_spelling-Increment, suffix_spelling-Index, suffix_spelling-Member, type_name_spelling-is}
 use Rattle.c_tree.proofs.Appends.{joined_more, kinds-append}
 use Rattle.c_tree.proofs.spelling.tree.+spelling.Goals as goal
@@ -6,32 +6,32 @@ use Rattle.c_tree.proofs.spelling.tree.+spelling.Goals as goal
 pub suffixes-loop-one-preserved : goal.suffixes-loop-one-preserved
 suffixes-loop-one-preserved t c =
     let more = joined_more suffix_spelling c.args.all.now c.loop-one.one-index c.one-item.result c.loop-one-test.true c.one-item.is in
-    rw (more, c.in_ok-suffix.ensures, c.loop-one.invariant) (simp (kinds-append, append_assoc))
+    rw (more, c.in_ok-suffix.ensures, c.loop-one.invariant) (simp append_assoc)
 
 pub prefixes-loop-one-preserved : goal.prefixes-loop-one-preserved
 prefixes-loop-one-preserved t c =
     let more = joined_more prefix_spelling c.args.all.now c.loop-one.one-index c.one-item.result c.loop-one-test.true c.one-item.is in
-    rw (more, c.in_ok-prefix.ensures, c.loop-one.invariant) (simp (kinds-append, append_assoc))
+    rw (more, c.in_ok-prefix.ensures, c.loop-one.invariant) (simp append_assoc)
 
 pub specifiers-loop-one-preserved : goal.specifiers-loop-one-preserved
 specifiers-loop-one-preserved t c =
     let more = joined_more specifier_spelling c.args.all.now c.loop-one.one-index c.one-item.result c.loop-one-test.true c.one-item.is in
-    rw (more, c.in_ok-specifier.ensures, c.loop-one.invariant) (simp (kinds-append, append_assoc))
+    rw (more, c.in_ok-specifier.ensures, c.loop-one.invariant) (simp append_assoc)
 
 pub enumerators-loop-one-preserved : goal.enumerators-loop-one-preserved
 enumerators-loop-one-preserved t c =
     let more = joined_more enumerator_spelling c.args.all.now c.loop-one.one-index c.one-item.result c.loop-one-test.true c.one-item.is in
-    rw (more, c.in_ok-enumerator.ensures, c.loop-one.invariant) (simp (kinds-append, append_assoc))
+    rw (more, c.in_ok-enumerator.ensures, c.loop-one.invariant) (simp append_assoc)
 
 pub declarator_suffixes-loop-one-preserved : goal.declarator_suffixes-loop-one-preserved
 declarator_suffixes-loop-one-preserved t c =
     let more = joined_more declarator_suffix_spelling c.args.all.now c.loop-one.one-index c.one-item.result c.loop-one-test.true c.one-item.is in
-    rw (more, c.in_ok-declarator_suffix.ensures, c.loop-one.invariant) (simp (kinds-append, append_assoc))
+    rw (more, c.in_ok-declarator_suffix.ensures, c.loop-one.invariant) (simp append_assoc)
 
 pub nexts-loop-one-preserved : goal.nexts-loop-one-preserved
 nexts-loop-one-preserved t c =
     let more = joined_more next_spelling c.args.all.now c.loop-one.one-index c.one-item.result c.loop-one-test.true c.one-item.is in
-    rw (more, c.in_ok-expr.ensures, c.in_ok-punct.ensures, c.loop-one.invariant, next_spelling-is c.one-item.result) (simp (kinds-append, append_assoc))
+    rw (more, c.in_ok-expr.ensures, c.in_ok-punct.ensures, c.loop-one.invariant, next_spelling-is c.one-item.result) (simp append_assoc)
 
 pub branches-loop-one-preserved : goal.branches-loop-one-preserved
 branches-loop-one-preserved t c =
@@ -105,10 +105,10 @@ pub suffix-returns-in_ok-punct-in-CallWith-2 : goal.suffix-returns-in_ok-punct-i
 suffix-returns-in_ok-punct-in-CallWith-2 t c = rw (c.in-CallWith.is, suffix_spelling-CallWith, c.in_ok-punct-in-CallWith-2.ensures, c.in_ok-nexts-in-CallWith.ensures, c.as_slice.ensures, c.in_ok-expr-in-CallWith.ensures, c.in_ok-punct-in-CallWith.ensures) (simp (kinds-append, append_assoc))
 
 pub suffix-returns-in_ok-identifier-in-Member : goal.suffix-returns-in_ok-identifier-in-Member
-suffix-returns-in_ok-identifier-in-Member t c = rw (c.in-Member.is, suffix_spelling-Member, c.in_ok-identifier-in-Member.ensures, c.in_ok-punct-in-Member.ensures) (simp (kinds-append, append_assoc))
+suffix-returns-in_ok-identifier-in-Member t c = rw (c.in-Member.is, suffix_spelling-Member, c.in_ok-identifier-in-Member.ensures, c.in_ok-punct-in-Member.ensures) (simp append_assoc)
 
 pub suffix-returns-in_ok-identifier-in-Arrow : goal.suffix-returns-in_ok-identifier-in-Arrow
-suffix-returns-in_ok-identifier-in-Arrow t c = rw (c.in-Arrow.is, suffix_spelling-Arrow, c.in_ok-identifier-in-Arrow.ensures, c.in_ok-punct-in-Arrow.ensures) (simp (kinds-append, append_assoc))
+suffix-returns-in_ok-identifier-in-Arrow t c = rw (c.in-Arrow.is, suffix_spelling-Arrow, c.in_ok-identifier-in-Arrow.ensures, c.in_ok-punct-in-Arrow.ensures) (simp append_assoc)
 
 pub suffix-returns-in_ok-punct-in-Increment : goal.suffix-returns-in_ok-punct-in-Increment
 suffix-returns-in_ok-punct-in-Increment t c = rw (c.in-Increment.is, suffix_spelling-Increment, c.in_ok-punct-in-Increment.ensures)
@@ -135,13 +135,13 @@ pub specifier-returns-in_ok-keyword-in-Word : goal.specifier-returns-in_ok-keywo
 specifier-returns-in_ok-keyword-in-Word t c = rw (c.in-Word.is, specifier_spelling-Word, c.in_ok-keyword-in-Word.ensures, c.type_word.ensures)
 
 pub specifier-returns-in_ok-identifier-in-StructTag : goal.specifier-returns-in_ok-identifier-in-StructTag
-specifier-returns-in_ok-identifier-in-StructTag t c = rw (c.in-StructTag.is, specifier_spelling-StructTag, c.in_ok-identifier-in-StructTag.ensures, c.in_ok-keyword-in-StructTag.ensures) (simp (kinds-append, append_assoc))
+specifier-returns-in_ok-identifier-in-StructTag t c = rw (c.in-StructTag.is, specifier_spelling-StructTag, c.in_ok-identifier-in-StructTag.ensures, c.in_ok-keyword-in-StructTag.ensures) (simp append_assoc)
 
 pub specifier-returns-in_ok-punct-in-Struct-2 : goal.specifier-returns-in_ok-punct-in-Struct-2
 specifier-returns-in_ok-punct-in-Struct-2 t c = rw (c.in-Struct.is, specifier_spelling-Struct, c.in_ok-punct-in-Struct-2.ensures, c.in_ok-members-in-Struct.ensures, c.as_slice.ensures, c.in_ok-punct-in-Struct.ensures, c.in_ok-name_at-in-Struct.ensures, c.in_ok-keyword-in-Struct.ensures) (simp (kinds-append, append_assoc))
 
 pub specifier-returns-in_ok-identifier-in-EnumTag : goal.specifier-returns-in_ok-identifier-in-EnumTag
-specifier-returns-in_ok-identifier-in-EnumTag t c = rw (c.in-EnumTag.is, specifier_spelling-EnumTag, c.in_ok-identifier-in-EnumTag.ensures, c.in_ok-keyword-in-EnumTag.ensures) (simp (kinds-append, append_assoc))
+specifier-returns-in_ok-identifier-in-EnumTag t c = rw (c.in-EnumTag.is, specifier_spelling-EnumTag, c.in_ok-identifier-in-EnumTag.ensures, c.in_ok-keyword-in-EnumTag.ensures) (simp append_assoc)
 
 pub specifier-returns-in_ok-punct-in-Enum-2 : goal.specifier-returns-in_ok-punct-in-Enum-2
 specifier-returns-in_ok-punct-in-Enum-2 t c = rw (c.in-Enum.is, specifier_spelling-Enum, c.in_ok-punct-in-Enum-2.ensures, c.in_ok-comma_at-in-Enum.ensures, c.in_ok-enumerators-in-Enum.ensures, c.as_slice-in-Enum.ensures, c.in_ok-punct-in-Enum.ensures, c.in_ok-name_at-in-Enum.ensures, c.in_ok-keyword-in-Enum.ensures) (simp (kinds-append, append_assoc))
