@@ -7,7 +7,7 @@ use Rattle.c_tree.specs.declared.typed.types.Base.TheVariants as base
 use Rattle.c_tree.specs.declared.typed.types.Derived.{Derived}
 use Rattle.c_tree.specs.declared.typed.types.Derived.TheVariants as derived
 use Rattle.c_tree.specs.declared.typed.types.CType.{CType, out-CType}
-use Rattle.c_layout.specs.Tags.{Structs, layout_of}
+use Rattle.c_layout.specs.Tags.{Structs, layout_of, is_alignment}
 
 -- how a number of bytes is told in 64 bits: one that is greater than the greatest number as that number
 abbrev pub capped : ℕ → ℕ
@@ -87,6 +87,13 @@ size_of tags t = capped_size (whole_size tags t)
 -- the alignment of a type in bytes, or none where the type is incomplete or a function
 abbrev pub alignment_of : Structs → CType → Option ℕ
 alignment_of tags t = aligned (base_alignment tags (out-CType t).base) (out-CType t).derived
+
+-- ---- alignments
+
+-- where a type has an alignment, it is one of those that there are
+abbrev pub is_alignment_if_any : Option ℕ → Bool
+is_alignment_if_any (Some a) = is_alignment a
+is_alignment_if_any None = true
 
 -- ---- completeness
 

@@ -14,12 +14,12 @@ use Rattle.c_layout.specs.Sizes.{capped, whole_size, alignment_of}
 abbrev pub Declared : Type 0
 Declared = List ℕ × CType
 
--- the bytes and the alignment of a member
-abbrev pub bytes_of : Structs → Declared → ℕ
-bytes_of tags m = unwrap_or (whole_size tags m.1) 0
+-- the bytes and the alignment of an object of a complete type
+abbrev pub bytes_of : Structs → CType → ℕ
+bytes_of tags t = unwrap_or (whole_size tags t) 0
 
-abbrev pub strictness_of : Structs → Declared → ℕ
-strictness_of tags m = unwrap_or (alignment_of tags m.1) 1
+abbrev pub strictness_of : Structs → CType → ℕ
+strictness_of tags t = unwrap_or (alignment_of tags t) 1
 
 -- the least multiple of an alignment that is not below a number: between the two there is padding
 abbrev pub next_multiple : (n alignment : ℕ) → ℕ
@@ -27,10 +27,10 @@ next_multiple n a = n + (a - n % a) % a
 
 -- where a member begins, and where it ends, behind so many bytes
 abbrev pub start_behind : Structs → (end : ℕ) → Declared → ℕ
-start_behind tags end m = next_multiple end (strictness_of tags m)
+start_behind tags end m = next_multiple end (strictness_of tags m.1)
 
 abbrev pub end_behind : Structs → (end : ℕ) → Declared → ℕ
-end_behind tags end m = start_behind tags end m + bytes_of tags m
+end_behind tags end m = start_behind tags end m + bytes_of tags m.1
 
 -- where the last of some members ends
 abbrev pub end_of : Structs → (end : ℕ) → List Declared → ℕ
@@ -46,7 +46,7 @@ placed tags end (m ∷ ms) =
 -- the strictest alignment of some members (C11 6.2.8p4)
 abbrev pub strictest : Structs → List Declared → ℕ
 strictest tags [] = 1
-strictest tags (m ∷ ms) = max (strictness_of tags m) (strictest tags ms)
+strictest tags (m ∷ ms) = max (strictness_of tags m.1) (strictest tags ms)
 
 -- the layout of a structure of these members: behind the last one there may be padding (C11 6.7.2.1p17)
 abbrev pub layout : Structs → List Declared → StructLayout

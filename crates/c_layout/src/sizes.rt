@@ -1,6 +1,6 @@
 //! The sizes and the alignments of types.
 
-ghost use Rattle.std.specs.Prelude.{◌≡◌};
+ghost use Rattle.std.specs.Prelude.{◌≡◌, true, is_some};
 ghost use Rattle.c_layout.specs.Sizes as spec;
 
 use crate::tags::{StructLayout, Tags};
@@ -12,22 +12,40 @@ use c_tree::typed::{Base, CType, Derived};
 /// A structure that is not in the list counts as one without members. A size above 2^64 - 1 is given as
 /// 2^64 - 1. The time is linear in the number of derivations.
 pub fn size(t: &CType, tags: &Tags) -> Option<u64>
-    ensures { result ≡ spec.size_of tags.now t.now }
+    ensures size { result ≡ spec.size_of tags.now t.now }
+    ensures complete { is_some result ≡ spec.is_complete tags.now t.now }
 {
-    let mut size = base_size(t.base, tags);
-    for derivation in t.derived.as_slice() {
-        size = derived_size(size, derivation);
-    }
-    size
+    sized(base_size(t.base, tags), t.derived.as_slice())
 }
 
 /// The alignment of a type in bytes (C11 6.2.8, 6.5.3.4p2), or `None` exactly where the type is incomplete
 /// or a function.
 pub fn align(t: &CType, tags: &Tags) -> Option<u64>
-    ensures { result ≡ spec.alignment_of tags.now t.now }
+    ensures alignment { result ≡ spec.alignment_of tags.now t.now }
+    ensures complete { is_some result ≡ spec.is_complete tags.now t.now }
+    ensures aligned { spec.is_alignment_if_any result ≡ true }
 {
-    let mut alignment = base_alignment(t.base, tags);
-    for derivation in t.derived.as_slice() {
+    aligned(base_alignment(t.base, tags), t.derived.as_slice())
+}
+
+/// The size of what is derived from a type of this size.
+fn sized(before: Option<u64>, derivations: &[Derived]) -> Option<u64>
+    requires { spec.capped_size before ≡ before }
+    ensures { result ≡ spec.capped_size (spec.sized before derivations.now) }
+{
+    let mut size = before;
+    for derivation in derivations {
+        size = derived_size(size, derivation);
+    }
+    size
+}
+
+/// The alignment of what is derived from a type of this alignment.
+fn aligned(before: Option<u64>, derivations: &[Derived]) -> Option<u64>
+    ensures { result ≡ spec.aligned before derivations.now }
+{
+    let mut alignment = before;
+    for derivation in derivations {
         alignment = derived_alignment(alignment, derivation);
     }
     alignment
@@ -52,7 +70,8 @@ fn struct_size(layout: &StructLayout) -> u64
 }
 
 fn base_alignment(base: Base, tags: &Tags) -> Option<u64>
-    ensures { result ≡ spec.base_alignment tags.now base }
+    ensures alignment { result ≡ spec.base_alignment tags.now base }
+    ensures aligned { spec.is_alignment_if_any result ≡ true }
 {
     match base {
         Base::Void => None,

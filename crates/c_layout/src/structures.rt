@@ -2,6 +2,7 @@
 
 ghost use Rattle.std.specs.Prelude.{◌≡◌, ◌<◌, ◌≢◌, true, length, slice_get, slice_set, find, AllPairs, All, IfOk, OnOk, OnErr, Some, None};
 ghost use Rattle.std.specs.Option.{option_copied};
+ghost use Rattle.c_layout.specs.Tags.{is_alignment};
 ghost use Rattle.c_layout.specs.Sizes as sizes;
 ghost use Rattle.c_layout.specs.Structures as spec;
 
@@ -69,15 +70,16 @@ fn lay_out(
     members: Vec<(Text, CType)>,
 ) -> Result<StructLayout, Memory>
     requires complete { All (λ m. sizes.is_complete tags.now m.1 ≡ true) members.items }
-    ensures { IfOk result (λ layout. layout ≡ spec.layout tags.now members.items) }
+    ensures layout { IfOk result (λ layout. layout ≡ spec.layout tags.now members.items) }
+    ensures aligned { IfOk result (λ layout. is_alignment layout.alignment ≡ true) }
 {
     let mut placed = Vec::new(alloc);
     let mut end = 0;
     let mut alignment = 1;
     for (name, ctype) in members {
-        let strictness = align(&ctype, tags).unwrap_or(1);
+        let strictness = strictness(&ctype, tags);
         let offset = next_multiple(end, strictness);
-        end = offset.saturating_add(size(&ctype, tags).unwrap_or(0));
+        end = offset.saturating_add(bytes(&ctype, tags));
         alignment = alignment.max(strictness);
         placed.push(MemberLayout {
             name,
@@ -90,6 +92,23 @@ fn lay_out(
         alignment,
         members: Items::from_vec(placed),
     })
+}
+
+/// The bytes of an object of a complete type.
+fn bytes(t: &CType, tags: &Tags) -> u64
+    requires { sizes.is_complete tags.now t.now ≡ true }
+    ensures { result ≡ sizes.capped (spec.bytes_of tags.now t.now) }
+{
+    size(t, tags).unwrap()
+}
+
+/// The alignment of an object of a complete type.
+fn strictness(t: &CType, tags: &Tags) -> u64
+    requires { sizes.is_complete tags.now t.now ≡ true }
+    ensures strictness { result ≡ spec.strictness_of tags.now t.now }
+    ensures aligned { is_alignment result ≡ true }
+{
+    align(t, tags).unwrap()
 }
 
 /// The next multiple of an alignment, from a number on.

@@ -1,4 +1,4 @@
-ghost use Rattle.std.specs.Prelude.{◌≡◌, ◌<◌, ◌++◌, ◌∷◌, [], List, length, slice_set, IfOk, OnErr, Some, None};
+ghost use Rattle.std.specs.Prelude.{◌≡◌, ◌<◌, ◌++◌, ◌∷◌, [], List, length, slice_set, true, IfOk, OnErr, Some, None};
 ghost use Rattle.std.specs.Option.{option_copied};
 ghost use Rattle.c_layout.specs.Tags as spec;
 
@@ -48,6 +48,11 @@ impl Model for Tags {
     ghost coded = { coded_list (coded_option layout.the_row.coded) };
 
     ghost view = { λ t. t.list };
+
+    ghost use Rattle.std.specs.Prelude.{◌≡◌, true};
+    ghost use Rattle.c_layout.specs.Tags.{are_aligned};
+
+    ghost invariant = { λ t. are_aligned t.list ≡ true };
 }
 
 impl Tags {
@@ -80,7 +85,8 @@ impl Tags {
     /// The layout of the structure type of a number; `None` where it has no members yet, or is not in the
     /// list.
     pub fn layout(&self, tag: u32) -> Option<&StructLayout>
-        ensures { option_copied result ≡ spec.layout_of self.now tag }
+        ensures layout { option_copied result ≡ spec.layout_of self.now tag }
+        ensures aligned { spec.is_aligned (option_copied result) ≡ true }
     {
         match self.list.get(tag as usize) {
             Some(Some(layout)) => Some(layout),
@@ -90,7 +96,8 @@ impl Tags {
 
     /// Gives a structure type its layout.
     pub(crate) fn set(&mut self, tag: u32, layout: StructLayout)
-        requires { tag < length self.old }
+        requires declared { tag < length self.old }
+        requires aligned { spec.is_alignment layout.alignment ≡ true }
         ensures { self.new ≡ slice_set self.old tag (Some layout) }
     {
         self.list.set(tag as usize, Some(layout));

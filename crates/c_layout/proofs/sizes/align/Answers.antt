@@ -1,11 +1,11 @@
-use Rattle.std.proofs.Common.{◌≡◌, ◌∙◌, refl}
-use Rattle.c_layout.proofs.Caps.{aligned_more}
+use Rattle.c_layout.proofs.Completeness.{alignment_of-complete, aligned-aligned}
 use Rattle.c_layout.proofs.sizes.align.Goals as goal
 
-pub loop-derivation-init : goal.loop-derivation-init
-loop-derivation-init c = rw (c.base_alignment-alignment.ensures, c.as_slice-derivation-items.ensures) refl
+pub returns-clause-complete : goal.returns-clause-complete
+returns-clause-complete c =
+    rw (c.aligned.ensures, c.as_slice.ensures, c.base_alignment.ensures.alignment)
+    (alignment_of-complete c.args.tags.now c.args.t.now)
 
-pub loop-derivation-preserved : goal.loop-derivation-preserved
-loop-derivation-preserved c =
-    rw c.derived_alignment-alignment.ensures
-    (aligned_more c.as_slice-derivation-items.result.now c.loop-derivation.derivation-index c.derivation-item.result c.loop-derivation.alignment c.loop-derivation-test.true c.derivation-item.is ∙ c.loop-derivation.invariant)
+pub returns-clause-aligned : goal.returns-clause-aligned
+returns-clause-aligned c =
+    rw c.aligned.ensures (aligned-aligned c.as_slice.result.now c.base_alignment.result c.base_alignment.ensures.aligned)
