@@ -1,3 +1,5 @@
 pub mod Tags
 pub mod Sizes
 pub mod Structures
+pub mod Constants
+pub mod ConstantNodes

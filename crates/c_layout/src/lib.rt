@@ -8,10 +8,14 @@
 //! `specs/Constants` which expressions are integer constant expressions, and their values.
 #![tactic(auto)]
 
+mod constants;
 mod sizes;
 mod structures;
 mod tags;
+#[cfg(test)]
+mod tests;
 
+pub use constants::constant;
 pub use sizes::{align, size};
 pub use structures::{complete, member, member_offset};
 pub use tags::{MemberLayout, StructLayout, Tags};

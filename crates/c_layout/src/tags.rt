@@ -1,4 +1,4 @@
-ghost use Rattle.std.specs.Prelude.{◌≡◌, ◌<◌, ◌++◌, ◌∷◌, [], List, length, slice_set, true, IfOk, OnErr, Some, None};
+ghost use Rattle.std.specs.Prelude.{◌≡◌, ◌<◌, ◌++◌, ◌∷◌, [], List, length, slice_get, slice_set, true, IfOk, OnErr, Some, None};
 ghost use Rattle.std.specs.Option.{option_copied};
 ghost use Rattle.c_layout.specs.Tags as spec;
 
@@ -73,6 +73,7 @@ impl Tags {
     pub fn declare(&mut self) -> Result<u32, Memory>
         ensures number { IfOk result (λ n. n ≡ length self.old) }
         ensures added { IfOk result (λ n. self.new ≡ self.old ++ None ∷ []) }
+        ensures open { IfOk result (λ n. slice_get self.new n ≡ Some None) }
         ensures kept { OnErr result (self.new ≡ self.old) }
     {
         let Ok(number) = u32::try_from(self.list.len()) else {
