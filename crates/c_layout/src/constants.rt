@@ -132,7 +132,7 @@ fn number_of(e: &TExpr) -> Option<u32>
         TExpr::Applied(_, first, steps) => stepped(number_of(first.get())?, steps.as_slice()),
         TExpr::All(_, all) => every(all.as_slice()),
         TExpr::Any(_, all) => some(all.as_slice()),
-        TExpr::Choose(_, arms, last) => chosen(arms.as_slice(), last.get()),
+        TExpr::Choose(_, arms, last) => chosen(arms.as_slice(), number_of(last.get())),
         TExpr::Comma(_, _, _) => None,
         TExpr::Assign(_, _, _) => None,
         TExpr::Call(_, _, _) => None,
@@ -193,15 +193,15 @@ fn some(all: &[TExpr]) -> Option<u32>
 
 /// What stands at the first condition that is not 0, else the last.
 #[cycle(number)]
-fn chosen(arms: &[Arm], last: &TExpr) -> Option<u32>
-    ensures { result ≡ spec.chosen (map spec.arm_number_of arms.now) (spec.number_of last.now) }
+fn chosen(arms: &[Arm], last: Option<u32>) -> Option<u32>
+    ensures { result ≡ spec.chosen (map spec.arm_number_of arms.now) last }
 {
     for arm in arms {
         if number_of(&arm.condition)? != 0 {
             return number_of(&arm.chosen);
         }
     }
-    number_of(last)
+    last
 }
 
 fn primary_number(primary: &Primary) -> Option<u32>
