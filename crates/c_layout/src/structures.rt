@@ -64,11 +64,7 @@ fn find_member<'a>(members: &'a [MemberLayout], name: &Text) -> Option<&'a Membe
 }
 
 /// The layout of a structure of these members.
-fn lay_out(
-    alloc: Global,
-    tags: &Tags,
-    members: Vec<(Text, CType)>,
-) -> Result<StructLayout, Memory>
+fn lay_out(alloc: Global, tags: &Tags, members: Vec<(Text, CType)>) -> Result<StructLayout, Memory>
     requires complete { All (λ m. sizes.is_complete tags.now m.1 ≡ true) members.items }
     ensures layout { IfOk result (λ layout. layout ≡ spec.layout tags.now members.items) }
     ensures aligned { IfOk result (λ layout. is_alignment layout.alignment ≡ true) }

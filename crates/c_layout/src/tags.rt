@@ -39,7 +39,6 @@ pub struct Tags {
 impl Model for Tags {
     ghost use Rattle.std.specs.Prelude.{List, Option};
     ghost use Rattle.c_layout.specs.declared.tags.StructLayout.{StructLayout};
-
     ghost use Rattle.c_layout.specs.contracts.tags.StructLayout as layout;
     ghost use Rattle.std.specs.Coded.{coded_list, coded_option};
 

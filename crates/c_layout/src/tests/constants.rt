@@ -1,49 +1,149 @@
-use super::fixture::{derived, plain};
 use crate::constant;
 use c_tree::typed::{
-    Arithmetic, Arm, CType, Base, Change, Conversion, Derived, Given, Increment, Primary, Relation,
-    Scalar, Sign, Step, Stride, TExpr, Target, Unary,
+    Arithmetic, Arm, Base, CType, Change, Conversion, Given, Increment, Primary, Relation, Scalar,
+    Sign, Step, Stride, TExpr, Target, Unary,
 };
 use std::alloc::Global;
 use std::test::Fail;
 use word_ops::{Boxed, Items, Op, Width};
 
+/// A node of a tree, as tables write it: behind its operands.
+#[derive(Clone, Copy, Debug)]
+enum Item {
+    Is(Primary),
+    Unary(Unary),
+    Binary(Arithmetic),
+    And,
+    Or,
+    Choose,
+    Comma,
+    Assign(Change),
+    Call,
+    DroppedCall,
+    GetChar,
+    PutChar,
+    Exit,
+}
+
 fn int(alloc: Global) -> CType {
-    plain(alloc, Base::Int)
+    CType {
+        base: Base::Int,
+        constant: false,
+        derived: Items::new(alloc),
+    }
 }
 
-fn number(alloc: Global, value: u32) -> TExpr {
-    TExpr::Primary(int(alloc), Primary::Number(value))
+fn pair(alloc: Global, left: TExpr, right: TExpr) -> Result<Items<TExpr>, Fail> {
+    let mut list = Vec::new(alloc);
+    list.push(left)?;
+    list.push(right)?;
+    Ok(Items::from_vec(list))
 }
 
-fn applied(alloc: Global, first: TExpr, steps: Vec<Step>) -> Result<TExpr, Fail> {
+fn applied(alloc: Global, first: TExpr, step: Step) -> Result<TExpr, Fail> {
+    let mut steps = Vec::new(alloc);
+    steps.push(step)?;
     Ok(TExpr::Applied(int(alloc), Boxed::new(alloc, first)?, Items::from_vec(steps)))
 }
 
-fn unary(alloc: Global, operator: Unary, operand: TExpr) -> Result<TExpr, Fail> {
-    applied(alloc, operand, vec![in alloc; Step::Unary(operator)]?)
+fn choose(alloc: Global, condition: TExpr, chosen: TExpr, last: TExpr) -> Result<TExpr, Fail> {
+    let mut arms = Vec::new(alloc);
+    arms.push(Arm { condition, chosen })?;
+    Ok(TExpr::Choose(int(alloc), Items::from_vec(arms), Boxed::new(alloc, last)?))
 }
 
-fn binary(alloc: Global, operator: Arithmetic, left: TExpr, right: TExpr) -> Result<TExpr, Fail> {
-    applied(alloc, left, vec![in alloc; Step::Binary(operator, right)]?)
+fn assign(alloc: Global, change: Change, value: TExpr) -> Result<TExpr, Fail> {
+    let mut targets = Vec::new(alloc);
+    targets.push(Target::Variable(0, change))?;
+    Ok(TExpr::Assign(int(alloc), Items::from_vec(targets), Boxed::new(alloc, value)?))
 }
 
-/// `1 / 0`
-fn undefined(alloc: Global) -> Result<TExpr, Fail> {
-    binary(alloc, Arithmetic::Word(Op::Divs), number(alloc, 1), number(alloc, 0))
+fn comma(alloc: Global, dropped: TExpr, last: TExpr) -> Result<TExpr, Fail> {
+    let mut list = Vec::new(alloc);
+    list.push(dropped)?;
+    Ok(TExpr::Comma(int(alloc), Items::from_vec(list), Boxed::new(alloc, last)?))
 }
 
-/// The value of an automatic `int`.
-fn variable(alloc: Global) -> TExpr {
-    TExpr::Primary(int(alloc), Primary::Variable(Scalar::Integer(Width::Word), 0))
+fn operand(operands: &mut Vec<TExpr>) -> Result<TExpr, Fail> {
+    Ok(operands.pop().ok_or("an operand is wanting")?)
+}
+
+/// A node with one operand or none.
+fn small_node(alloc: Global, operands: &mut Vec<TExpr>, item: Item) -> Result<TExpr, Fail> {
+    match item {
+        Item::Is(primary) => Ok(TExpr::Primary(int(alloc), primary)),
+        Item::Unary(operator) => applied(alloc, operand(operands)?, Step::Unary(operator)),
+        Item::Assign(change) => assign(alloc, change, operand(operands)?),
+        Item::Call => Ok(TExpr::Call(int(alloc), 0, Items::new(alloc))),
+        Item::DroppedCall => Ok(TExpr::DroppedCall(int(alloc), 0, Items::new(alloc))),
+        Item::PutChar => Ok(TExpr::PutChar(int(alloc), Boxed::new(alloc, operand(operands)?)?)),
+        Item::Exit => Ok(TExpr::Exit(int(alloc), Boxed::new(alloc, operand(operands)?)?)),
+        _ => Ok(TExpr::GetChar(int(alloc))),
+    }
+}
+
+fn node(alloc: Global, operands: &mut Vec<TExpr>, item: Item) -> Result<TExpr, Fail> {
+    match item {
+        Item::Binary(operator) => {
+            let right = operand(operands)?;
+            applied(alloc, operand(operands)?, Step::Binary(operator, right))
+        }
+        Item::And => {
+            let right = operand(operands)?;
+            Ok(TExpr::All(int(alloc), pair(alloc, operand(operands)?, right)?))
+        }
+        Item::Or => {
+            let right = operand(operands)?;
+            Ok(TExpr::Any(int(alloc), pair(alloc, operand(operands)?, right)?))
+        }
+        Item::Choose => {
+            let last = operand(operands)?;
+            let chosen = operand(operands)?;
+            choose(alloc, operand(operands)?, chosen, last)
+        }
+        Item::Comma => {
+            let last = operand(operands)?;
+            comma(alloc, operand(operands)?, last)
+        }
+        small => small_node(alloc, operands, small),
+    }
+}
+
+fn tree(alloc: Global, items: &[Item]) -> Result<TExpr, Fail> {
+    let mut operands = Vec::new(alloc);
+    for item in items {
+        let whole = node(alloc, &mut operands, *item)?;
+        operands.push(whole)?;
+    }
+    operand(&mut operands)
 }
 
 static BINARY: [(Arithmetic, u32, u32, Option<u32>); 48] = [
-    (Arithmetic::Word(Op::Divs), 0xffff_fff9, 2, Some(0xffff_fffd)),
-    (Arithmetic::Word(Op::Rems), 0xffff_fff9, 2, Some(0xffff_ffff)),
-    (Arithmetic::Word(Op::Divs), 7, 0xffff_fffe, Some(0xffff_fffd)),
+    (
+        Arithmetic::Word(Op::Divs),
+        0xffff_fff9,
+        2,
+        Some(0xffff_fffd),
+    ),
+    (
+        Arithmetic::Word(Op::Rems),
+        0xffff_fff9,
+        2,
+        Some(0xffff_ffff),
+    ),
+    (
+        Arithmetic::Word(Op::Divs),
+        7,
+        0xffff_fffe,
+        Some(0xffff_fffd),
+    ),
     (Arithmetic::Word(Op::Rems), 7, 0xffff_fffe, Some(1)),
-    (Arithmetic::Word(Op::Divu), 0xffff_fff9, 2, Some(2_147_483_644)),
+    (
+        Arithmetic::Word(Op::Divu),
+        0xffff_fff9,
+        2,
+        Some(2_147_483_644),
+    ),
     (Arithmetic::Word(Op::Remu), 0xffff_fff9, 5, Some(4)),
     (Arithmetic::Word(Op::Divs), 1, 0, None),
     (Arithmetic::Word(Op::Rems), 1, 0, None),
@@ -57,35 +157,131 @@ static BINARY: [(Arithmetic, u32, u32, Option<u32>); 48] = [
     (Arithmetic::Word(Op::Shls), 0xffff_ffff, 1, None),
     (Arithmetic::Word(Op::Shl), 1, 31, Some(0x8000_0000)),
     (Arithmetic::Word(Op::Shl), 1, 32, None),
-    (Arithmetic::Word(Op::Shrs), 0xffff_fff8, 1, Some(0xffff_fffc)),
-    (Arithmetic::Word(Op::Shru), 0xffff_fff8, 1, Some(2_147_483_644)),
+    (
+        Arithmetic::Word(Op::Shrs),
+        0xffff_fff8,
+        1,
+        Some(0xffff_fffc),
+    ),
+    (
+        Arithmetic::Word(Op::Shru),
+        0xffff_fff8,
+        1,
+        Some(2_147_483_644),
+    ),
     (Arithmetic::Word(Op::Shrs), 1, 32, None),
     (Arithmetic::Word(Op::And), 5, 3, Some(1)),
     (Arithmetic::Word(Op::Or), 5, 3, Some(7)),
     (Arithmetic::Word(Op::Xor), 5, 3, Some(6)),
-    (Arithmetic::Word(Op::Adds), 0x7fff_ffff, 0, Some(0x7fff_ffff)),
+    (
+        Arithmetic::Word(Op::Adds),
+        0x7fff_ffff,
+        0,
+        Some(0x7fff_ffff),
+    ),
     (Arithmetic::Word(Op::Adds), 0x7fff_ffff, 1, None),
-    (Arithmetic::Word(Op::Subs), 0x8000_0001, 1, Some(0x8000_0000)),
+    (
+        Arithmetic::Word(Op::Subs),
+        0x8000_0001,
+        1,
+        Some(0x8000_0000),
+    ),
     (Arithmetic::Word(Op::Subs), 0x8000_0001, 2, None),
-    (Arithmetic::Word(Op::Muls), 46340, 46340, Some(2_147_395_600)),
+    (
+        Arithmetic::Word(Op::Muls),
+        46340,
+        46340,
+        Some(2_147_395_600),
+    ),
     (Arithmetic::Word(Op::Muls), 65536, 65536, None),
     (Arithmetic::Word(Op::Mul), 65536, 65537, Some(65536)),
     (Arithmetic::Word(Op::Sub), 0, 5, Some(0xffff_fffb)),
     (Arithmetic::Word(Op::Add), 0xffff_ffff, 6, Some(5)),
-    (Arithmetic::Compare(Relation::Less, Sign::Signed), 3, 5, Some(1)),
-    (Arithmetic::Compare(Relation::Greater, Sign::Signed), 3, 5, Some(0)),
-    (Arithmetic::Compare(Relation::AtMost, Sign::Signed), 3, 3, Some(1)),
-    (Arithmetic::Compare(Relation::AtLeast, Sign::Signed), 3, 4, Some(0)),
-    (Arithmetic::Compare(Relation::Equal, Sign::Signed), 3, 3, Some(1)),
-    (Arithmetic::Compare(Relation::NotEqual, Sign::Signed), 3, 3, Some(0)),
-    (Arithmetic::Compare(Relation::Less, Sign::Signed), 0xffff_ffff, 1, Some(1)),
-    (Arithmetic::Compare(Relation::Less, Sign::Unsigned), 0xffff_ffff, 1, Some(0)),
-    (Arithmetic::Compare(Relation::Greater, Sign::Unsigned), 0xffff_ffff, 1, Some(1)),
-    (Arithmetic::Compare(Relation::AtLeast, Sign::Signed), 0xffff_ffff, 1, Some(0)),
-    (Arithmetic::Compare(Relation::AtMost, Sign::Unsigned), 0xffff_ffff, 1, Some(0)),
+    (
+        Arithmetic::Compare(Relation::Less, Sign::Signed),
+        3,
+        5,
+        Some(1),
+    ),
+    (
+        Arithmetic::Compare(Relation::Greater, Sign::Signed),
+        3,
+        5,
+        Some(0),
+    ),
+    (
+        Arithmetic::Compare(Relation::AtMost, Sign::Signed),
+        3,
+        3,
+        Some(1),
+    ),
+    (
+        Arithmetic::Compare(Relation::AtLeast, Sign::Signed),
+        3,
+        4,
+        Some(0),
+    ),
+    (
+        Arithmetic::Compare(Relation::Equal, Sign::Signed),
+        3,
+        3,
+        Some(1),
+    ),
+    (
+        Arithmetic::Compare(Relation::NotEqual, Sign::Signed),
+        3,
+        3,
+        Some(0),
+    ),
+    (
+        Arithmetic::Compare(Relation::Less, Sign::Signed),
+        0xffff_ffff,
+        1,
+        Some(1),
+    ),
+    (
+        Arithmetic::Compare(Relation::Less, Sign::Unsigned),
+        0xffff_ffff,
+        1,
+        Some(0),
+    ),
+    (
+        Arithmetic::Compare(Relation::Greater, Sign::Unsigned),
+        0xffff_ffff,
+        1,
+        Some(1),
+    ),
+    (
+        Arithmetic::Compare(Relation::AtLeast, Sign::Signed),
+        0xffff_ffff,
+        1,
+        Some(0),
+    ),
+    (
+        Arithmetic::Compare(Relation::AtMost, Sign::Unsigned),
+        0xffff_ffff,
+        1,
+        Some(0),
+    ),
     (Arithmetic::ComparePointers(Relation::Equal), 0, 0, None),
-    (Arithmetic::PointerPlus(Stride { element: 1, sign: Sign::Signed }), 0, 0, None),
-    (Arithmetic::PointerMinus(Stride { element: 1, sign: Sign::Signed }), 0, 0, None),
+    (
+        Arithmetic::PointerPlus(Stride {
+            element: 1,
+            sign: Sign::Signed,
+        }),
+        0,
+        0,
+        None,
+    ),
+    (
+        Arithmetic::PointerMinus(Stride {
+            element: 1,
+            sign: Sign::Signed,
+        }),
+        0,
+        0,
+        None,
+    ),
     (Arithmetic::Difference(4), 0, 0, None),
 ];
 
@@ -94,14 +290,38 @@ static UNARY: [(Unary, u32, Option<u32>); 21] = [
     (Unary::Negate(Sign::Signed), 5, Some(0xffff_fffb)),
     (Unary::Negate(Sign::Unsigned), 5, Some(0xffff_fffb)),
     (Unary::Negate(Sign::Signed), 0x8000_0000, None),
-    (Unary::Negate(Sign::Unsigned), 0x8000_0000, Some(0x8000_0000)),
+    (
+        Unary::Negate(Sign::Unsigned),
+        0x8000_0000,
+        Some(0x8000_0000),
+    ),
     (Unary::Not, 5, Some(0)),
     (Unary::Not, 0, Some(1)),
-    (Unary::Convert(Conversion::Integer(Width::S8)), 200, Some(0xffff_ffc8)),
-    (Unary::Convert(Conversion::Integer(Width::U8)), 300, Some(44)),
-    (Unary::Convert(Conversion::Integer(Width::S16)), 40000, Some(0xffff_9c40)),
-    (Unary::Convert(Conversion::Integer(Width::U16)), 70000, Some(4464)),
-    (Unary::Convert(Conversion::Integer(Width::Word)), 0xffff_fffe, Some(0xffff_fffe)),
+    (
+        Unary::Convert(Conversion::Integer(Width::S8)),
+        200,
+        Some(0xffff_ffc8),
+    ),
+    (
+        Unary::Convert(Conversion::Integer(Width::U8)),
+        300,
+        Some(44),
+    ),
+    (
+        Unary::Convert(Conversion::Integer(Width::S16)),
+        40000,
+        Some(0xffff_9c40),
+    ),
+    (
+        Unary::Convert(Conversion::Integer(Width::U16)),
+        70000,
+        Some(4464),
+    ),
+    (
+        Unary::Convert(Conversion::Integer(Width::Word)),
+        0xffff_fffe,
+        Some(0xffff_fffe),
+    ),
     (Unary::Convert(Conversion::Bool), 256, Some(1)),
     (Unary::Convert(Conversion::Bool), 0, Some(0)),
     (Unary::Convert(Conversion::Pointer), 0, None),
@@ -119,120 +339,131 @@ static UNARY: [(Unary, u32, Option<u32>); 21] = [
         0,
         None,
     ),
-    (Unary::Convert(Conversion::Integer(Width::U8)), 255, Some(255)),
+    (
+        Unary::Convert(Conversion::Integer(Width::U8)),
+        255,
+        Some(255),
+    ),
+];
+
+const N0: Item = Item::Is(Primary::Number(0));
+const N1: Item = Item::Is(Primary::Number(1));
+const N2: Item = Item::Is(Primary::Number(2));
+const N3: Item = Item::Is(Primary::Number(3));
+const N5: Item = Item::Is(Primary::Number(5));
+/// With 1 and 0 before it undefined.
+const DIVIDE: Item = Item::Binary(Arithmetic::Word(Op::Divs));
+const TIMES: Item = Item::Binary(Arithmetic::Word(Op::Muls));
+const VARIABLE: Item = Item::Is(Primary::Variable(Scalar::Integer(Width::Word), 0));
+const CHANGE: Change = Change {
+    scalar: Scalar::Integer(Width::Word),
+    operator: None,
+    conversion: Conversion::Integer(Width::Word),
+};
+
+static TREES: [(&[Item], Option<u32>); 37] = [
+    // && and ||: what stands behind the operand that decides may be undefined
+    (&[N0, N1, N0, DIVIDE, Item::And], Some(0)),
+    (&[N3, N0, Item::And], Some(0)),
+    (&[N1, N2, Item::And], Some(1)),
+    (&[N1, N1, N0, DIVIDE, Item::And], None),
+    (&[N1, N0, DIVIDE, N0, Item::And], None),
+    (&[N2, N1, N0, DIVIDE, Item::Or], Some(1)),
+    (&[N0, N2, Item::Or], Some(1)),
+    (&[N0, N0, Item::Or], Some(0)),
+    (&[N0, N1, N0, DIVIDE, Item::Or], None),
+    (&[N1, N0, DIVIDE, N1, Item::Or], None),
+    // ? :: the side that is not chosen may be undefined
+    (&[N1, N2, N1, N0, DIVIDE, Item::Choose], Some(2)),
+    (&[N0, N1, N0, DIVIDE, N3, Item::Choose], Some(3)),
+    (&[N0, N1, N0, N2, N5, Item::Choose, Item::Choose], Some(5)),
+    (&[N1, N0, DIVIDE, N1, N2, Item::Choose], None),
+    (&[N1, N1, N0, DIVIDE, N2, Item::Choose], None),
+    (&[N0, N2, N1, N0, DIVIDE, Item::Choose], None),
+    // an operator evaluates both operands
+    (&[N0, N1, N0, DIVIDE, TIMES], None),
+    (&[N1, N0, DIVIDE, N0, TIMES], None),
+    (&[N2, N3, TIMES, N5, Item::Binary(Arithmetic::Word(Op::Subs)), Item::Unary(Unary::Not)], Some(0)),
+    // forms that no constant has, evaluated or not
+    (&[VARIABLE], None),
+    (&[N0, VARIABLE, Item::And], None),
+    (&[N1, VARIABLE, Item::Or], None),
+    (&[N1, N2, VARIABLE, Item::Choose], None),
+    (&[N0, VARIABLE, N2, Item::Choose], None),
+    (&[VARIABLE, N2, N2, Item::Choose], None),
+    (&[N1, VARIABLE, TIMES], None),
+    (&[Item::Is(Primary::Null)], None),
+    (&[Item::Is(Primary::Address(0))], None),
+    (&[Item::Is(Primary::Static(0))], None),
+    (&[N1, N2, Item::Comma], None),
+    (&[N1, Item::Assign(CHANGE)], None),
+    (&[Item::Call], None),
+    (&[Item::DroppedCall], None),
+    (&[Item::GetChar], None),
+    (&[N1, Item::PutChar], None),
+    (&[N1, Item::Exit], None),
+    (&[N5], Some(5)),
 ];
 
 #[test]
-fn operators_are_folded(rt: HostRuntime) -> Result<(), Fail> {
-    let alloc = rt.alloc();
+fn binary_operators_are_folded(rt: HostRuntime) -> Result<(), Fail> {
     for (operator, a, b, value) in BINARY {
-        let e = binary(alloc, operator, number(alloc, a), number(alloc, b))?;
+        let items = [Item::Is(Primary::Number(a)), Item::Is(Primary::Number(b)), Item::Binary(operator)];
+        let e = tree(rt.alloc(), &items)?;
         assert_eq!(rt; constant(&e), value, "at {operator:?} {a} {b}");
     }
+    Ok(())
+}
+
+#[test]
+fn unary_operators_are_folded(rt: HostRuntime) -> Result<(), Fail> {
     for (operator, a, value) in UNARY {
-        let e = unary(alloc, operator, number(alloc, a))?;
+        let e = tree(rt.alloc(), &[Item::Is(Primary::Number(a)), Item::Unary(operator)])?;
         assert_eq!(rt; constant(&e), value, "at {operator:?} {a}");
     }
-    let chain = applied(
-        alloc,
-        number(alloc, 7),
-        vec![in alloc;
-            Step::Binary(Arithmetic::Word(Op::Subs), number(alloc, 2)),
-            Step::Unary(Unary::Negate(Sign::Signed)),
-            Step::Binary(Arithmetic::Word(Op::Adds), number(alloc, 1))
-        ]?,
-    )?;
-    assert_eq!(rt; constant(&chain), Some(0xffff_fffc));
     Ok(())
 }
 
 #[test]
-fn what_is_not_evaluated_may_be_undefined(rt: HostRuntime) -> Result<(), Fail> {
-    let alloc = rt.alloc();
-    let zero = [
-        TExpr::All(int(alloc), Items::from_vec(vec![in alloc; number(alloc, 0), undefined(alloc)?]?)),
-        TExpr::All(int(alloc), Items::from_vec(vec![in alloc; number(alloc, 3), number(alloc, 0)]?)),
-        TExpr::Any(int(alloc), Items::from_vec(vec![in alloc; number(alloc, 0), number(alloc, 0)]?)),
-    ];
-    for e in &zero {
-        assert_eq!(rt; constant(e), Some(0), "at {e:?}");
-    }
-    let one = [
-        TExpr::Any(int(alloc), Items::from_vec(vec![in alloc; number(alloc, 7), undefined(alloc)?]?)),
-        TExpr::Any(int(alloc), Items::from_vec(vec![in alloc; number(alloc, 0), number(alloc, 7)]?)),
-        TExpr::All(int(alloc), Items::from_vec(vec![in alloc; number(alloc, 1), number(alloc, 2)]?)),
-    ];
-    for e in &one {
-        assert_eq!(rt; constant(e), Some(1), "at {e:?}");
-    }
-    let none = [
-        TExpr::All(int(alloc), Items::from_vec(vec![in alloc; number(alloc, 1), undefined(alloc)?]?)),
-        TExpr::Any(int(alloc), Items::from_vec(vec![in alloc; number(alloc, 0), undefined(alloc)?]?)),
-        binary(alloc, Arithmetic::Word(Op::Muls), number(alloc, 0), undefined(alloc)?)?,
-        TExpr::All(int(alloc), Items::from_vec(vec![in alloc; number(alloc, 0), variable(alloc)]?)),
-        TExpr::Any(int(alloc), Items::from_vec(vec![in alloc; number(alloc, 1), variable(alloc)]?)),
-    ];
-    for e in &none {
-        assert_eq!(rt; constant(e), None, "at {e:?}");
+fn what_is_evaluated_is_defined(rt: HostRuntime) -> Result<(), Fail> {
+    for (items, value) in &TREES {
+        let e = tree(rt.alloc(), items)?;
+        assert_eq!(rt; constant(&e), *value, "at {items:?}");
     }
     Ok(())
 }
 
-fn choose(alloc: Global, condition: TExpr, chosen: TExpr, last: TExpr) -> Result<TExpr, Fail> {
-    let arms = vec![in alloc; Arm { condition, chosen }]?;
-    Ok(TExpr::Choose(int(alloc), Items::from_vec(arms), Boxed::new(alloc, last)?))
+fn number(alloc: Global, value: u32) -> TExpr {
+    TExpr::Primary(int(alloc), Primary::Number(value))
 }
 
+/// `-(7 - 2) + 1`, as one list of steps
 #[test]
-fn one_side_is_chosen(rt: HostRuntime) -> Result<(), Fail> {
+fn steps_follow_one_another(rt: HostRuntime) -> Result<(), Fail> {
     let alloc = rt.alloc();
-    let n = |value: u32| number(alloc, value);
-    assert_eq!(rt; constant(&choose(alloc, n(1), n(2), undefined(alloc)?)?), Some(2));
-    assert_eq!(rt; constant(&choose(alloc, n(0), undefined(alloc)?, n(3))?), Some(3));
-    assert_eq!(rt; constant(&choose(alloc, n(0), n(1), choose(alloc, n(0), n(2), n(5))?)?), Some(5));
-    assert_eq!(rt; constant(&choose(alloc, undefined(alloc)?, n(1), n(2))?), None);
-    assert_eq!(rt; constant(&choose(alloc, n(1), undefined(alloc)?, n(2))?), None);
-    assert_eq!(rt; constant(&choose(alloc, n(1), n(2), variable(alloc))?), None);
-    assert_eq!(rt; constant(&choose(alloc, n(0), variable(alloc), n(2))?), None);
-    assert_eq!(rt; constant(&choose(alloc, variable(alloc), n(2), n(2))?), None);
-    let arms = vec![in alloc;
-        Arm { condition: n(0), chosen: n(1) },
-        Arm { condition: n(9), chosen: n(4) },
-        Arm { condition: undefined(alloc)?, chosen: n(6) }
-    ]?;
-    let ladder = TExpr::Choose(int(alloc), Items::from_vec(arms), Boxed::new(alloc, n(7))?);
-    assert_eq!(rt; constant(&ladder), Some(4));
+    let mut steps = Vec::new(alloc);
+    steps.push(Step::Binary(Arithmetic::Word(Op::Subs), number(alloc, 2)))?;
+    steps.push(Step::Unary(Unary::Negate(Sign::Signed)))?;
+    steps.push(Step::Binary(Arithmetic::Word(Op::Adds), number(alloc, 1)))?;
+    let first = Boxed::new(alloc, number(alloc, 7))?;
+    let e = TExpr::Applied(int(alloc), first, Items::from_vec(steps));
+    assert_eq!(rt; constant(&e), Some(0xffff_fffc));
     Ok(())
 }
 
+/// `0 ? 1 : 9 ? 4 : 1 ? 6 : 7`, as one list of arms
 #[test]
-fn other_forms_are_no_constants(rt: HostRuntime) -> Result<(), Fail> {
+fn the_first_arm_that_holds_is_chosen(rt: HostRuntime) -> Result<(), Fail> {
     let alloc = rt.alloc();
-    let n = |value: u32| number(alloc, value);
-    let change = Change {
-        scalar: Scalar::Integer(Width::Word),
-        operator: None,
-        conversion: Conversion::Integer(Width::Word),
-    };
-    let others = [
-        variable(alloc),
-        TExpr::Primary(derived(Base::Void, vec![in alloc; Derived::Pointer(false)]?), Primary::Null),
-        TExpr::Primary(int(alloc), Primary::Address(0)),
-        TExpr::Primary(int(alloc), Primary::Static(0)),
-        TExpr::Comma(int(alloc), Items::from_vec(vec![in alloc; n(1)]?), Boxed::new(alloc, n(2))?),
-        TExpr::Assign(
-            int(alloc),
-            Items::from_vec(vec![in alloc; Target::Variable(0, change)]?),
-            Boxed::new(alloc, n(1))?,
-        ),
-        TExpr::Call(int(alloc), 0, Items::new(alloc)),
-        TExpr::DroppedCall(int(alloc), 0, Items::new(alloc)),
-        TExpr::GetChar(int(alloc)),
-        TExpr::PutChar(int(alloc), Boxed::new(alloc, n(1))?),
-        TExpr::Exit(plain(alloc, Base::Void), Boxed::new(alloc, n(1))?),
-    ];
-    for e in &others {
-        assert_eq!(rt; constant(e), None, "at {e:?}");
+    let mut arms = Vec::new(alloc);
+    for (condition, chosen) in [(0, 1), (9, 4), (1, 6)] {
+        arms.push(Arm {
+            condition: number(alloc, condition),
+            chosen: number(alloc, chosen),
+        })?;
     }
+    let last = Boxed::new(alloc, number(alloc, 7))?;
+    let e = TExpr::Choose(int(alloc), Items::from_vec(arms), last);
+    assert_eq!(rt; constant(&e), Some(4));
     Ok(())
 }

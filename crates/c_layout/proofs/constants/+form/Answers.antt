@@ -18,13 +18,13 @@ has_constant_form-returns-in-Primary t c = rw (c.in-Primary.is, has_constant_for
 pub has_constant_form-returns-then-has_constant_form : goal.has_constant_form-returns-then-has_constant_form
 has_constant_form-returns-then-has_constant_form t c =
     let first : has_constant_form c.in-Applied.first ≡ true =
-        ap has_constant_form (sym c.get.ensures) ∙ sym c.has_constant_form.ensures ∙ c.if-has_constant_form.true in
+    ap has_constant_form (sym c.get.ensures) ∙ sym c.has_constant_form.ensures ∙ c.if-has_constant_form.true in
     rw (c.in-Applied.is, has_constant_form-Applied, first, c.steps_have_form.ensures, c.as_slice.ensures) refl
 
 pub has_constant_form-returns-else-has_constant_form : goal.has_constant_form-returns-else-has_constant_form
 has_constant_form-returns-else-has_constant_form t c =
     let first : has_constant_form c.in-Applied.first ≡ false =
-        ap has_constant_form (sym c.get.ensures) ∙ sym c.has_constant_form.ensures ∙ c.if-has_constant_form.false in
+    ap has_constant_form (sym c.get.ensures) ∙ sym c.has_constant_form.ensures ∙ c.if-has_constant_form.false in
     c.if-has_constant_form.false ∙ rw (c.in-Applied.is, has_constant_form-Applied, first) refl
 
 pub has_constant_form-returns-in-All : goal.has_constant_form-returns-in-All

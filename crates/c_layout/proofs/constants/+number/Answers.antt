@@ -13,27 +13,27 @@ chosen-returns-in_err-number_of t c =
 pub chosen-returns-then-branch-ne0 : goal.chosen-returns-then-branch-ne0
 chosen-returns-then-branch-ne0 t c =
     let condition : number_of c.arm-item.result.condition ≡ Some c.in_ok-number_of.field-0 =
-        sym c.number_of.ensures ∙ c.in_ok-number_of.was in
+    sym c.number_of.ensures ∙ c.in_ok-number_of.was in
     c.number_of-then-branch-ne0.ensures
     ∙ sym (sym c.loop-arm.invariant ∙ chosen-next c.args.arms.now c.loop-arm.arm-index c.arm-item.result c.args.last c.loop-arm-test.true c.arm-item.is ∙ chosen-here (number_of c.arm-item.result.condition) (number_of c.arm-item.result.chosen) (map arm_number_of (drop (c.loop-arm.arm-index + 1) c.args.arms.now)) c.args.last c.in_ok-number_of.field-0 condition c.if-branch-ne0.true)
 
 pub chosen-loop-arm-preserved : goal.chosen-loop-arm-preserved
 chosen-loop-arm-preserved t c =
     let condition : number_of c.arm-item.result.condition ≡ Some c.in_ok-number_of.field-0 =
-        sym c.number_of.ensures ∙ c.in_ok-number_of.was in
+    sym c.number_of.ensures ∙ c.in_ok-number_of.was in
     sym (chosen-next c.args.arms.now c.loop-arm.arm-index c.arm-item.result c.args.last c.loop-arm-test.true c.arm-item.is ∙ chosen-later (number_of c.arm-item.result.condition) (number_of c.arm-item.result.chosen) (map arm_number_of (drop (c.loop-arm.arm-index + 1) c.args.arms.now)) c.args.last c.in_ok-number_of.field-0 condition c.if-branch-ne0.false)
     ∙ c.loop-arm.invariant
 
 pub number_of-returns-in_err-number_of-in-Applied : goal.number_of-returns-in_err-number_of-in-Applied
 number_of-returns-in_err-number_of-in-Applied t c =
     let first : number_of c.in-Applied.first ≡ None =
-        ap number_of (sym c.get.ensures) ∙ sym c.number_of.ensures ∙ c.in_err-number_of-in-Applied.was in
+    ap number_of (sym c.get.ensures) ∙ sym c.number_of.ensures ∙ c.in_err-number_of-in-Applied.was in
     c.from_residual.ensures ∙ rw (c.in-Applied.is, number_of-Applied, first) refl
 
 pub number_of-returns-in_ok-number_of-in-Applied : goal.number_of-returns-in_ok-number_of-in-Applied
 number_of-returns-in_ok-number_of-in-Applied t c =
     let first : number_of c.in-Applied.first ≡ Some c.in_ok-number_of-in-Applied.field-0 =
-        ap number_of (sym c.get.ensures) ∙ sym c.number_of.ensures ∙ c.in_ok-number_of-in-Applied.was in
+    ap number_of (sym c.get.ensures) ∙ sym c.number_of.ensures ∙ c.in_ok-number_of-in-Applied.was in
     rw (c.in-Applied.is, number_of-Applied, first, c.stepped.ensures, c.as_slice.ensures) refl
 
 pub number_of-returns-in-Primary : goal.number_of-returns-in-Primary
@@ -81,5 +81,5 @@ step_number-returns-in-Unary t c = rw (c.in-Unary.is, step_number_of-Unary) c.un
 pub step_number-returns-in_ok-number_of-in-Binary : goal.step_number-returns-in_ok-number_of-in-Binary
 step_number-returns-in_ok-number_of-in-Binary t c =
     let right : number_of c.in-Binary.right ≡ Some c.in_ok-number_of-in-Binary.field-0 =
-        sym c.number_of.ensures ∙ c.in_ok-number_of-in-Binary.was in
+    sym c.number_of.ensures ∙ c.in_ok-number_of-in-Binary.was in
     rw (c.in-Binary.is, step_number_of-Binary, right) c.arithmetic_number.ensures

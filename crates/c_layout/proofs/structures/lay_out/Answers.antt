@@ -20,8 +20,8 @@ loop-name-preserved c =
     let m : Declared = (c.in-Some.name, c.in-Some.ctype) in
     let before = end_of tags 0 ms in
     let start : c.next_multiple-offset.result ≡ capped (start_behind tags before m) =
-        rw (c.next_multiple-offset.ensures, c.strictness-strictness.ensures.strictness, c.loop-name.invariant.end)
-        (next_multiple_capped before (strictness_of tags m.1)) in
+    rw (c.next_multiple-offset.ensures, c.strictness-strictness.ensures.strictness, c.loop-name.invariant.end)
+    (next_multiple_capped before (strictness_of tags m.1)) in
     let greater : c.max-alignment.result ≡ max c.loop-name.alignment c.strictness-strictness.result = grind (arith, common_steps) in
     record {
       can_next = tt;

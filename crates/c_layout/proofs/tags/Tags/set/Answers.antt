@@ -1,6 +1,6 @@
 use Rattle.std.proofs.Common.{Some}
 use Rattle.c_layout.specs.Tags.{is_aligned}
-use Rattle.c_layout.proofs.Tests.{list_all-set}
+use Rattle.c_layout.proofs.Lists.{list_all-set}
 use Rattle.c_layout.proofs.tags.Tags.set.Goals as goal
 
 pub invariant_of-self : goal.invariant_of-self
