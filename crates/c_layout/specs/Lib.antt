@@ -3,3 +3,5 @@ pub mod Sizes
 pub mod Structures
 pub mod Constants
 pub mod ConstantNodes
+pub mod Laws
+pub mod Examples

@@ -9,6 +9,7 @@
 #![tactic(auto)]
 
 mod constants;
+mod laws;
 mod sizes;
 mod structures;
 mod tags;
@@ -16,6 +17,9 @@ mod tags;
 mod tests;
 
 pub use constants::constant;
+pub use laws::{
+    complete_types_keep_their_size, members_lie_in_their_structure, next_multiple_is_the_least,
+};
 pub use sizes::{align, size};
 pub use structures::{complete, member, member_offset};
 pub use tags::{MemberLayout, StructLayout, Tags};
