@@ -1,0 +1,4 @@
+pub mod Punctuators
+pub mod Input
+pub mod Read
+pub mod Examples
