@@ -2,3 +2,4 @@ pub mod Punctuators
 pub mod Input
 pub mod Read
 pub mod Examples
+pub mod Laws
