@@ -1,3 +1,8 @@
 -- The laws that tie the parser to the spelling, the levels and the nesting of trees.
 pub mod Form
 pub mod Lists
+pub mod Single
+pub mod Rows
+pub mod Cases
+pub mod Behind
+pub mod Primary

@@ -2,4 +2,5 @@ pub mod Punctuators
 pub mod Input
 pub mod Read
 pub mod Examples
+pub mod Ending
 pub mod Laws

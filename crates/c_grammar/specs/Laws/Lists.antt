@@ -2,7 +2,7 @@
 use Rattle.std.specs.Prelude.{◌≡◌, ℕ, zero, suc, ◌+◌, ◌≤◌, ◌<◌, max, Bool, true, false, List, [], ◌∷◌, ◌++◌, length, map, Ok, Err, refl}
 use Rattle.std.proofs.Common.{ap, sym, ◌∙◌, subst, cond, arith, append_assoc, append-nil, length-append}
 use Rattle.c_tree.specs.Spelling.Tokens.{joined}
-use Rattle.c_tree.specs.Levels.Names.{Names}
+use Rattle.c_tree.specs.Levels.Names.{Names, With, in_row}
 use Rattle.c_tree.specs.Nesting.OfTrees.{deepest}
 use Rattle.c_grammar.specs.Input.{Tokens, State, Outcome, Parser, and_then, ◌>>=◌, pure, loop, many_by}
 use Rattle.c_grammar.specs.Laws.Form.{Form, Got, Exact, bind_ok, ok_pair, subst2, both}
@@ -186,6 +186,37 @@ module _ {S X : Type 0} (I : Items S X) (more : ℕ) (reads : S → Parser X) (k
   pub list_quiet : (s : S) (names : Names) (xs : List X) → all_good I s names xs → joined (map I.spell xs) ≡ [] → all_added I names xs ≡ []
   list_quiet s names [] g e = refl
   list_quiet s names (x ∷ xs) g e = absurd (let a = kept.some s names x g.0 in omega (arith, ap length e, length-append (I.spell x) (joined (map I.spell xs)), a))
+
+-- ---- what may stand behind a list
+
+module _ {S X : Type 0} (I : Items S X) where
+  -- what was told of the items, to the end
+  abbrev pub left : S → List X → S
+  left s [] = s
+  left s (x ∷ xs) = left (I.step s x) xs
+
+  abbrev pub last_of : X → List X → X
+  last_of x [] = x
+  last_of x (y ∷ ys) = last_of y ys
+
+  pub stop_goes : (s : S) (xs : List X) (names : Names) (rest : Tokens) → all_stop I s xs names rest → I.goes (left s xs) (names, rest) ≡ false
+  stop_goes s [] names rest h = h
+  stop_goes s (x ∷ xs) names rest h = stop_goes (I.step s x) xs names rest h.1
+
+  pub stop_last : (s : S) (x : X) (xs : List X) (names : Names) (rest : Tokens) → all_stop I s (x ∷ xs) names rest → I.stop (last_of x xs) names rest
+  stop_last s x [] names rest h = h.0
+  stop_last s x (y ∷ ys) names rest h = stop_last (I.step s x) y ys names rest h.1
+
+  pub stop_made : (s : S) (x : X) (xs : List X) (names : Names) (rest : Tokens) → I.stop (last_of x xs) names rest → I.goes (left s (x ∷ xs)) (names, rest) ≡ false → all_stop I s (x ∷ xs) names rest
+  stop_made s x [] names rest a b = (a, b)
+  stop_made s x (y ∷ ys) names rest a b = (tt, stop_made (I.step s x) y ys names rest a b)
+
+-- what is told of trees in a row, and what they declare
+pub added_in_row : {S X Y : Type 0} (I : Items S X) (told : X → With Y) → ((names : Names) (x : X) → I.adds names x ≡ (told x names).1)
+    → (names : Names) (xs : List X) → all_added I names xs ≡ (in_row (map told xs) names).1
+added_in_row I told same names [] = refl
+added_in_row I told same names (x ∷ xs) =
+    ap (λ l. l ++ all_added I (names ++ l) xs) (same names x) ∙ ap (λ l. (told x names).1 ++ l) (added_in_row I told same (names ++ (told x names).1) xs)
 
 -- ---- what stands first, and a list behind it
 
