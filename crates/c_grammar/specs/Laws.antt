@@ -5,4 +5,5 @@ pub mod Single
 pub mod Rows
 pub mod Cases
 pub mod Behind
+pub mod Numbers
 pub mod Primary

@@ -15,19 +15,22 @@ use Rattle.c_tree.specs.declared.expression.Expr.TheVariants as expr
 use Rattle.c_tree.specs.Spelling.Tokens.{token, punct, literal, literals, joined}
 use Rattle.c_tree.specs.Spelling.Trees.{expr_spelling, expr_spelling-Name, expr_spelling-Number, expr_spelling-Char, expr_spelling-Strings, expr_spelling-Paren}
 use Rattle.c_tree.specs.Levels.Names.{Names, is_typedef_name}
-use Rattle.c_tree.specs.Levels.Productions.{primary, comma, none}
+use Rattle.c_tree.specs.Levels.Productions.{primary, unary, cast, comma, none}
 use Rattle.c_tree.specs.Levels.Facts.{filled, where_good}
 use Rattle.c_tree.specs.Levels.Trees.{expr_level, expr_level-Name, expr_level-Number, expr_level-Char, expr_level-Strings, expr_level-Paren}
 use Rattle.c_tree.specs.Nesting.OfTrees.{deepest}
 use Rattle.c_tree.specs.Nesting.Trees.{expr_nesting, expr_nesting-Name, expr_nesting-Number, expr_nesting-Char, expr_nesting-Strings, expr_nesting-Paren}
 use Rattle.c_grammar.specs.Input.{Tokens, State, Parser, peek, is_bytes, is_mark, sees, one, expect, opening, many}
+use Rattle.c_grammar.specs.Read.Nodes.{begins_cast}
 use Rattle.c_grammar.specs.Read.Inner.{Inner}
 use Rattle.c_grammar.specs.Read.Expressions.{atom_at, literal_at, paren, strings, primary as read_primary}
 use Rattle.c_grammar.specs.Ending.Trees.{expr_ending, expr_ending-Name, expr_ending-Number, expr_ending-Char, expr_ending-Strings, expr_ending-Paren}
 use Rattle.c_grammar.specs.Laws.Form.{Form, Exact, Node, Image, only, both, node_exact, same_exact, choose_exact, whole_exact, two, three}
 use Rattle.c_grammar.specs.Laws.Lists.{Items, Kept, item, all_good, all_added, all_stop, last_stop, chain, chain_exact, chain_stop, left, last_of, stop_goes, stop_made}
-use Rattle.c_grammar.specs.Laws.Single.{single, one_exact, MadeOf, OneToken, pick_exact}
+use Rattle.c_grammar.specs.Laws.Single.{single, one_exact, MadeOf, OneToken, pick_exact, sees_mark}
 use Rattle.c_grammar.specs.Laws.Rows.{deeper, bracketed, bracketed_exact}
+use Rattle.c_grammar.specs.Laws.Cases.{ExprShape, expr_shape}
+use Rattle.c_grammar.specs.Laws.Numbers.{shape_number, number_within, level_low}
 use Rattle.c_grammar.specs.Laws.Behind.{goes_on, expr_form, nat_le-true, nat_le-is, good_of, where_is, before_mark, primary_stop, joins_above, goes_above}
 
 -- ---- one token
@@ -248,3 +251,83 @@ paren_exact more inner exact =
     same_exact (only (Image paren_of) (expr_form primary)) more _ (paren more inner) (three (opening more p.LeftParen) (λ from. inner.expr comma) (λ from x. expect p.RightParen) (λ from x to. expr.Paren from x to))
     (node_exact paren_form paren_of (expr_form primary) more _
       (bracketed_exact p.LeftParen (deeper (expr_form comma)) p.RightParen more (inner.expr comma) exact (λ names x at rest g. before_mark comma (expr_ending x) p.RightParen at rest (omega arith))) paren_node)
+
+-- ---- a primary expression is one of these
+
+abbrev IsStrings : Expr → Type 0
+IsStrings = Image strings_of
+
+abbrev IsParen : Expr → Type 0
+IsParen = Image paren_of
+
+first_bytes : (names : Names) (a : Literal) (ls : List Literal) (rest : Tokens) → goes_text (names, expr_spelling (expr.Strings (a ∷ ls)) ++ rest) ≡ true
+first_bytes names a ls rest = ap (λ l. goes_text (names, l ++ rest)) (expr_spelling-Strings (a ∷ ls)) ∙ sees_bytes names a (literals ls ++ rest)
+
+sees_token : (t : Token) (names : Names) (rest : Tokens) → peek (t ∷ rest) ≡ Some t.kind
+unfolding peek
+sees_token t names rest = refl
+
+atom_kind : (names : Names) (x : Expr) (rest : Tokens) (test : Option TokenKind → Bool) → IsAtom x → ((text : List ℕ) → test (Some (k.Name text)) ≡ false) → ((value : ℕ) (kind : IntKind) → test (Some (k.Number value kind)) ≡ false) → ((value : ℕ) → test (Some (k.Char value)) ≡ false)
+    → test (peek (expr_spelling x ++ rest)) ≡ false
+atom_kind names x rest test (inl i) a b c = subst (λ x. test (peek (expr_spelling x ++ rest)) ≡ false) i.1 (ap (λ l. test (peek (l ++ rest))) (expr_spelling-Name i.0) ∙ ap test (sees_token _ names rest) ∙ a i.0.text)
+atom_kind names x rest test (inr (inl i)) a b c = subst (λ x. test (peek (expr_spelling x ++ rest)) ≡ false) i.1 (ap (λ l. test (peek (l ++ rest))) (expr_spelling-Number i.0.0 i.0.1 i.0.2) ∙ ap test (sees_token _ names rest) ∙ b i.0.0 i.0.1)
+atom_kind names x rest test (inr (inr i)) a b c = subst (λ x. test (peek (expr_spelling x ++ rest)) ≡ false) i.1 (ap (λ l. test (peek (l ++ rest))) (expr_spelling-Char i.0.0 i.0.1) ∙ ap test (sees_token _ names rest) ∙ c i.0.0)
+
+is_strings_seen : (names : Names) (x : Expr) (rest : Tokens) → IsStrings x → goes_text (names, expr_spelling x ++ rest) ≡ true
+is_strings_seen names x rest i = subst (λ x. goes_text (names, expr_spelling x ++ rest) ≡ true) i.1 (first_bytes names i.0.0 i.0.1 rest)
+
+paren_seen : (names : Names) (x : Expr) (rest : Tokens) → IsParen x → sees p.LeftParen (names, expr_spelling x ++ rest) ≡ true
+paren_seen names x rest i = subst (λ x. sees p.LeftParen (names, expr_spelling x ++ rest) ≡ true) i.1
+    (ap (λ l. sees p.LeftParen (names, l ++ rest)) (expr_spelling-Paren i.0.0.0 i.0.0.1 i.0.1) ∙ sees_mark p.LeftParen names i.0.0.0 _)
+
+bytes_no_mark : (o : Option TokenKind) → is_bytes o ≡ true → is_mark p.LeftParen o ≡ false
+bytes_no_mark None h = refl
+bytes_no_mark (Some (k.Punct op)) h = absurd cc
+bytes_no_mark (Some (k.Bytes bytes)) h = refl
+bytes_no_mark (Some (k.Keyword key)) h = refl
+bytes_no_mark (Some (k.Name text)) h = refl
+bytes_no_mark (Some (k.Number value kind)) h = refl
+bytes_no_mark (Some (k.Char value)) h = refl
+
+unopened : (names : Names) (x : Expr) (rest : Tokens) → IsStrings x ⊎ IsAtom x → sees p.LeftParen (names, expr_spelling x ++ rest) ≡ false
+unopened names x rest (inl i) = bytes_no_mark (peek (expr_spelling x ++ rest)) (is_strings_seen names x rest i)
+unopened names x rest (inr i) = atom_kind names x rest (is_mark p.LeftParen) i (λ text. refl) (λ value kind. refl) (λ value. refl)
+
+strings_are : (all : List Literal) (names : Names) → (expr_level (expr.Strings all) names).0 ≤ primary → IsStrings (expr.Strings all)
+strings_are [] names h = absurd (let b = (good_of (filled {A = Literal} []) primary primary (rw (expr_level-Strings []) at h) (omega arith)).0 in cc)
+strings_are (l ∷ ls) names h = ((l, ls), refl)
+
+abbrev IsPrimary : Expr → Type 0
+IsPrimary x = IsParen x ⊎ (IsStrings x ⊎ IsAtom x)
+
+too_loose : {x : Expr} (s : ExprShape x) (names : Names) → (expr_level x names).0 ≤ primary → 0 < shape_number s → ⊥
+too_loose s names h n = let e = number_within s names primary h (omega arith) in omega arith
+
+primary_is : {x : Expr} → ExprShape x → (names : Names) → (expr_level x names).0 ≤ primary → IsPrimary x
+primary_is (ExprShape.a_name id) names h = inr (inr (inl (id, refl)))
+primary_is (ExprShape.a_number value kind at) names h = inr (inr (inr (inl ((value, kind, at), refl))))
+primary_is (ExprShape.a_char value at) names h = inr (inr (inr (inr ((value, at), refl))))
+primary_is (ExprShape.a_strings all) names h = inr (inl (strings_are all names h))
+primary_is (ExprShape.a_paren from inner to) names h = inl (((from, inner), to), refl)
+primary_is (ExprShape.a_prefixed run operand) names h = absurd (too_loose (ExprShape.a_prefixed run operand) names h (run_number (begins_cast run)))
+  where
+    run_number : (b : Bool) → 0 < (if b then cast else unary)
+    run_number true = omega arith
+    run_number false = omega arith
+primary_is (ExprShape.a_binary lv first rest) names h = absurd (too_loose (ExprShape.a_binary lv first rest) names h (let a = level_low lv in omega arith))
+primary_is (ExprShape.a_postfix operand suffixes) names h = absurd (too_loose (ExprShape.a_postfix operand suffixes) names h (omega arith))
+primary_is (ExprShape.a_sizeof_type at from type to) names h = absurd (too_loose (ExprShape.a_sizeof_type at from type to) names h (omega arith))
+primary_is (ExprShape.a_conditional first rest) names h = absurd (too_loose (ExprShape.a_conditional first rest) names h (omega arith))
+primary_is (ExprShape.a_assign first rest) names h = absurd (too_loose (ExprShape.a_assign first rest) names h (omega arith))
+primary_is (ExprShape.a_comma first rest) names h = absurd (too_loose (ExprShape.a_comma first rest) names h (omega arith))
+
+pub primary_exact : (more : ℕ) (inner : Inner) → Exact (deeper (expr_form comma)) more (inner.expr comma) → Exact (expr_form primary) more (read_primary more inner)
+unfolding read_primary
+primary_exact more inner exact =
+    whole_exact IsPrimary (expr_form primary) more _ (λ names x g. primary_is (expr_shape x) names g)
+    (choose_exact IsParen (λ x. IsStrings x ⊎ IsAtom x) (expr_form primary) more (sees p.LeftParen) (paren more inner) _ (paren_exact more inner exact)
+      (choose_exact IsStrings IsAtom (expr_form primary) more goes_text (strings more inner) (one atom_at) (strings_exact more inner) (atom_exact more)
+        (λ names x rest i g s. is_strings_seen names x rest i)
+        (λ names x rest i g s. atom_kind names x rest is_bytes i (λ text. refl) (λ value kind. refl) (λ value. refl)))
+      (λ names x rest i g s. paren_seen names x rest i)
+      (λ names x rest i g s. unopened names x rest i))
