@@ -7,3 +7,5 @@ pub mod Cases
 pub mod Behind
 pub mod Numbers
 pub mod Primary
+pub mod Operators
+pub mod Levels

@@ -291,3 +291,76 @@ pub five : {A B C D E T : Type 0} (p : Parser A) (q : A → Parser B) (r : A →
     ≡ map_to (both (both (both (both p q) (λ t. r t.0 t.1)) (λ t. u t.0.0 t.0.1 t.1)) (λ t. v t.0.0.0 t.0.0.1 t.0.1 t.1)) (λ t. f t.0.0.0.0 t.0.0.0.1 t.0.0.1 t.0.1 t.1) i
 five p q r u v f i = together p q (λ a b. r a b >>= (λ c. u a b c >>= (λ d. v a b c d >>= (λ e. pure (f a b c d e))))) i
     ∙ four (both p q) (λ t. r t.0 t.1) (λ t c. u t.0 t.1 c) (λ t c d. v t.0 t.1 c d) (λ t c d e. f t.0 t.1 c d e) i
+
+-- ---- what stands behind is one thing or another
+
+pub bind_same : {A B : Type 0} (p : Parser A) (k m : A → Parser B) → ((a : A) (i : State) → k a i ≡ m a i) → (i : State) → (p >>= k) i ≡ (p >>= m) i
+bind_same {A} {B} p k m same i = by (p i) where
+  by : (o : Outcome A) → and_then o k ≡ and_then o m
+  by (Ok r) = same r.0 r.1
+  by (Err e) = refl
+
+pub choose_same : {A : Type 0} (test : State → Bool) (p q r u : Parser A) → ((i : State) → p i ≡ r i) → ((i : State) → q i ≡ u i) → (i : State) → choose test p q i ≡ choose test r u i
+choose_same {A} test p q r u same other i = by (test i) where
+  by : (b : Bool) → cond b (p i) (q i) ≡ cond b (r i) (u i)
+  by true = same i
+  by false = other i
+
+-- a choice, and what is made of either
+pub choose_map : {A B T : Type 0} (test : State → Bool) (p : Parser A) (q : Parser B) (f : A ⊎ B → T) (i : State)
+    → choose test (p >>= (λ a. pure (f (inl a)))) (q >>= (λ b. pure (f (inr b)))) i ≡ map_to (choose test (map_to p inl) (map_to q inr)) f i
+choose_map {A} {B} {T} test p q f i = by (test i) where
+  first : (o : Outcome A) → and_then o (λ a. pure (f (inl a))) ≡ and_then (and_then o (λ a. pure {A = A ⊎ B} (inl a))) (λ t. pure (f t))
+  first (Ok r) = refl
+  first (Err e) = refl
+  second : (o : Outcome B) → and_then o (λ b. pure (f (inr b))) ≡ and_then (and_then o (λ b. pure {A = A ⊎ B} (inr b))) (λ t. pure (f t))
+  second (Ok r) = refl
+  second (Err e) = refl
+  by : (b : Bool) → cond b (and_then (p i) (λ a. pure (f (inl a)))) (and_then (q i) (λ b. pure (f (inr b)))) ≡ and_then (cond b (and_then (p i) (λ a. pure (inl a))) (and_then (q i) (λ b. pure (inr b)))) (λ t. pure (f t))
+  by true = first (p i)
+  by false = second (q i)
+
+-- one form or another
+module _ {A B : Type 0} (F : Form A) (G : Form B) where
+  abbrev spell_either : A ⊎ B → Tokens
+  spell_either (inl a) = F.spell a
+  spell_either (inr b) = G.spell b
+
+  abbrev good_either : Names → A ⊎ B → Type 0
+  good_either names (inl a) = F.good names a
+  good_either names (inr b) = G.good names b
+
+  abbrev adds_either : Names → A ⊎ B → Names
+  adds_either names (inl a) = F.adds names a
+  adds_either names (inr b) = G.adds names b
+
+  abbrev nest_either : A ⊎ B → ℕ
+  nest_either (inl a) = F.nest a
+  nest_either (inr b) = G.nest b
+
+  abbrev stop_either : A ⊎ B → Names → Tokens → Type 0
+  stop_either (inl a) names rest = F.stop a names rest
+  stop_either (inr b) names rest = G.stop b names rest
+
+  abbrev pub either : Form (A ⊎ B)
+  either = record { spell = spell_either; good = good_either; adds = adds_either; nest = nest_either; stop = stop_either }
+
+  left_node : Node F inl either
+  left_node = record { good = λ n t g. g; parts = λ n t g. g; nested = λ t. refl; spelt = λ t. refl; seen = λ n t. refl; stop = λ n t b r g h. h; from_stop = λ n t b r g h. h }
+
+  right_node : Node G inr either
+  right_node = record { good = λ n t g. g; parts = λ n t g. g; nested = λ t. refl; spelt = λ t. refl; seen = λ n t. refl; stop = λ n t b r g h. h; from_stop = λ n t b r g h. h }
+
+  side : (x : A ⊎ B) → Image inl x ⊎ Image inr x
+  side (inl a) = inl (a, refl)
+  side (inr b) = inr (b, refl)
+
+  pub either_exact : (more : ℕ) (test : State → Bool) (p : Parser A) (q : Parser B) → Exact F more p → Exact G more q
+      → ((names : Names) (a : A) (rest : Tokens) → F.good names a → F.stop a (names ++ F.adds names a) rest → test (names, F.spell a ++ rest) ≡ true)
+      → ((names : Names) (b : B) (rest : Tokens) → G.good names b → G.stop b (names ++ G.adds names b) rest → test (names, G.spell b ++ rest) ≡ false)
+      → Exact either more (choose test (map_to p inl) (map_to q inr))
+  either_exact more test p q first second takes leaves =
+      whole_exact (λ x. Image inl x ⊎ Image inr x) either more _ (λ names x g. side x)
+      (choose_exact (Image inl) (Image inr) either more test (map_to p inl) (map_to q inr) (node_exact F inl either more p first left_node) (node_exact G inr either more q second right_node)
+        (λ names x rest i. subst (λ x. either.good names x → either.stop x (names ++ either.adds names x) rest → test (names, either.spell x ++ rest) ≡ true) i.1 (takes names i.0 rest))
+        (λ names x rest i. subst (λ x. either.good names x → either.stop x (names ++ either.adds names x) rest → test (names, either.spell x ++ rest) ≡ false) i.1 (leaves names i.0 rest)))
