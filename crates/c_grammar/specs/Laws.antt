@@ -9,3 +9,5 @@ pub mod Numbers
 pub mod Primary
 pub mod Operators
 pub mod Levels
+pub mod Starts
+pub mod Postfix
