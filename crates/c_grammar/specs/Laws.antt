@@ -11,3 +11,7 @@ pub mod Operators
 pub mod Levels
 pub mod Starts
 pub mod Postfix
+pub mod Forms
+pub mod SpecifierStarts
+pub mod TypeNames
+pub mod Unary

@@ -1,6 +1,7 @@
 -- What a parser reads, exactly: the trees of a form, each by its spelling, up to where the tokens do not go on with it.
 use Rattle.std.specs.Prelude.{◌≡◌, ℕ, ◌≤◌, max, Bool, true, false, List, [], ◌∷◌, ◌++◌, Ok, Err, refl}
 use Rattle.std.proofs.Common.{ap, sym, ◌∙◌, subst, cond, arith, append_assoc, append-nil, ◌⊎◌, inl, inr}
+use Rattle.c_tree.specs.declared.token.Token.{Token}
 use Rattle.c_tree.specs.Levels.Names.{Names}
 use Rattle.c_grammar.specs.Input.{Tokens, State, Fault, Outcome, Parser, and_then, ◌>>=◌, pure, choose}
 
@@ -110,6 +111,77 @@ module _ {A B : Type 0} (F : Form A) (G : A → Form B) (more : ℕ) (p : Parser
 
   pub seq_exact : Follow F G → Exact (seq F G) more (both p q)
   seq_exact follow = record { sound = seq_sound; complete = seq_complete follow }
+
+-- ---- one after another, where the second may have no token
+
+abbrev pub open_seq : {A B : Type 0} → Form A → (A → Form B) → Form (A × B)
+open_seq F G = record {
+    spell = λ t. F.spell t.0 ++ (G t.0).spell t.1;
+    good = λ names t. F.good names t.0 × (G t.0).good (names ++ F.adds names t.0) t.1;
+    adds = λ names t. F.adds names t.0 ++ (G t.0).adds (names ++ F.adds names t.0) t.1;
+    nest = λ t. max (F.nest t.0) ((G t.0).nest t.1);
+    stop = λ t names rest. (G t.0).stop t.1 names rest × ((G t.0).spell t.1 ≡ [] → F.stop t.0 names rest);
+  }
+
+module _ {A B : Type 0} (F : Form A) (G : A → Form B) (more : ℕ) (p : Parser A) (q : A → Parser B) (first : Exact F more p) (second : (a : A) → Exact (G a) more (q a))
+    (quiet : (names : Names) (a : A) (b : B) → (G a).good names b → (G a).spell b ≡ [] → (G a).adds names b ≡ [])
+    (follow : (names : Names) (a : A) (b : B) (t : Token) (ts rest : Tokens) → F.good names a → (G a).good (names ++ F.adds names a) b → (G a).spell b ≡ t ∷ ts → F.stop a (names ++ F.adds names a) (t ∷ (ts ++ rest))) where
+  open_sound : (names : Names) (ts : Tokens) (t : A × B) (s : State) → both p q (names, ts) ≡ Ok (t, s) → Got (open_seq F G) more names ts t s
+  open_sound names ts t s h =
+      let b = bind_ok (p (names, ts)) _ _ h in
+      let x : A = b.0.0 in
+      let mid : State = b.0.1 in
+      let f = first.sound names ts x mid b.1 in
+      let c = bind_ok (q x mid) _ _ b.2 in
+      let y : B = c.0.0 in
+      let end : State = c.0.1 in
+      let g = (second x).sound mid.0 mid.1 y end c.1 in
+      let w = ok_pair {A = A × B} (x, y) t end s c.2 in
+      let names1 : Names = names ++ F.adds names x in
+      let good1 : (G x).good names1 y = subst (λ n. (G x).good n y) f.seen g.good in
+      let seen1 : end.0 ≡ names1 ++ (G x).adds names1 y = subst (λ n. end.0 ≡ n ++ (G x).adds n y) f.seen g.seen in
+      let m = f.nested in
+      let k = g.nested in
+      let whole : Got (open_seq F G) more names ts (x, y) end = record {
+            good = (f.good, good1);
+            nested = omega arith;
+            spelt = f.spelt ∙ ap (λ l. F.spell x ++ l) g.spelt ∙ sym (append_assoc (F.spell x) ((G x).spell y) end.1);
+            seen = seen1 ∙ append_assoc names (F.adds names x) ((G x).adds names1 y);
+            stops = (g.stops, λ e.
+              subst (λ n. F.stop x n end.1) (sym (g.seen ∙ ap (λ l. mid.0 ++ l) (quiet mid.0 x y g.good e) ∙ append-nil mid.0))
+              (subst (λ r. F.stop x mid.0 r) (g.spelt ∙ ap (λ l. l ++ end.1) e) f.stops));
+          } in
+      subst2 (λ (t : A × B) (s : State). Got (open_seq F G) more names ts t s) w.0 w.1 whole
+
+  first_stop : (names : Names) (a : A) (b : B) (rest ts : Tokens) → (G a).spell b ≡ ts → F.good names a → (G a).good (names ++ F.adds names a) b
+      → ((G a).spell b ≡ [] → F.stop a ((names ++ F.adds names a) ++ (G a).adds (names ++ F.adds names a) b) rest) → F.stop a (names ++ F.adds names a) (ts ++ rest)
+  first_stop names a b rest [] e g h st =
+      let names1 : Names = names ++ F.adds names a in
+      subst (λ n. F.stop a n rest) (ap (λ l. names1 ++ l) (quiet names1 a b h e) ∙ append-nil names1) (st e)
+  first_stop names a b rest (t ∷ ts) e g h st = follow names a b t ts rest g h e
+
+  open_complete : (names : Names) (t : A × B) (rest : Tokens) → (open_seq F G).good names t → (open_seq F G).nest t ≤ more → (open_seq F G).stop t (names ++ (open_seq F G).adds names t) rest
+      → both p q (names, (open_seq F G).spell t ++ rest) ≡ Ok (t, (names ++ (open_seq F G).adds names t, rest))
+  open_complete names t rest good deep stops =
+      let a : A = t.0 in
+      let b : B = t.1 in
+      let names1 : Names = names ++ F.adds names a in
+      let last : Names = names1 ++ (G a).adds names1 b in
+      let same : names ++ (F.adds names a ++ (G a).adds names1 b) ≡ last = sym (append_assoc names (F.adds names a) ((G a).adds names1 b)) in
+      let stop1 : (G a).stop b last rest × ((G a).spell b ≡ [] → F.stop a last rest) = subst (λ n. (G a).stop b n rest × ((G a).spell b ≡ [] → F.stop a n rest)) same stops in
+      let tail : Tokens = (G a).spell b ++ rest in
+      let m : F.nest a ≤ more = omega arith in
+      let k : (G a).nest b ≤ more = omega arith in
+      let f = first.complete names a tail good.0 m (first_stop names a b rest ((G a).spell b) refl good.0 good.1 stop1.1) in
+      let g = (second a).complete names1 b rest good.1 k stop1.0 in
+      let split : (F.spell a ++ (G a).spell b) ++ rest ≡ F.spell a ++ tail = append_assoc (F.spell a) ((G a).spell b) rest in
+      let made : B → State → Outcome (A × B) = λ b i. Ok ((a, b), i) in
+      let end : Names → Outcome (A × B) = λ n. Ok ((a, b), (n, rest)) in
+      ap (λ (l : Tokens). both p q (names, l)) split ∙ ap (λ o. and_then o (λ a. q a >>= (λ b. pure (a, b)))) f
+      ∙ ap (λ o. and_then o made) g ∙ ap end (sym same)
+
+  pub open_exact : Exact (open_seq F G) more (both p q)
+  open_exact = record { sound = open_sound; complete = open_complete }
 
 -- ---- what is made of what was read
 

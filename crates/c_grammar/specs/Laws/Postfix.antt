@@ -373,7 +373,7 @@ pub run_high : (b : Bool) → unary ≤ (if b then cast else unary)
 run_high true = omega arith
 run_high false = omega arith
 
-above_primary : {x : Expr} (s : ExprShape x) (names : Names) → (expr_level x names).0 ≤ primary → primary < shape_number s → ⊥
+pub above_primary : {x : Expr} (s : ExprShape x) (names : Names) → (expr_level x names).0 ≤ primary → primary < shape_number s → ⊥
 above_primary s names h n = let e = number_within s names primary h (omega arith) in omega arith
 
 -- a primary expression is no `sizeof` `(` type name `)`
@@ -391,7 +391,7 @@ primary_size (ExprShape.a_conditional a bs) names h = absurd (above_primary (Exp
 primary_size (ExprShape.a_assign a ns) names h = absurd (above_primary (ExprShape.a_assign a ns) names h (omega arith))
 primary_size (ExprShape.a_comma a ns) names h = absurd (above_primary (ExprShape.a_comma a ns) names h (omega arith))
 
-abbrev suffix_items : Items (Unit {0}) Suffix
+abbrev pub suffix_items : Items (Unit {0}) Suffix
 suffix_items = record {
     spell = suffix_spelling; good = λ s. suffix_form.good; adds = suffix_form.adds; nest = suffix_nesting; stop = suffix_form.stop;
     goes = λ s. goes postfix; step = λ s x. tt
@@ -440,7 +440,7 @@ suffixes_are : (names : Names) (xs : List Suffix) → all_true (in_row (map suff
 suffixes_are names [] h = tt
 suffixes_are names (x ∷ xs) h = let b = both_true (suffix_level x names).0 _ h in (b.0, suffixes_are (names ++ (suffix_level x names).1) xs b.1)
 
-abbrev postfix_form : Form (Expr × List Suffix)
+abbrev pub postfix_form : Form (Expr × List Suffix)
 postfix_form = chain (expr_form primary) suffix_items (λ a. tt)
 
 postfix_good : (names : Names) (a : Expr) (xs : List Suffix) → postfix_form.good names (a, xs) → (expr_level (with_suffixes a xs) names).0 ≤ postfix
@@ -462,7 +462,7 @@ alone {x} s names h n = record { tuple = (x, []); whole = refl; good = (tighter 
 too_loose : {x : Expr} (s : ExprShape x) (names : Names) → (expr_level x names).0 ≤ postfix → postfix < shape_number s → ⊥
 too_loose s names h n = let e = number_within s names postfix h (omega arith) in omega arith
 
-postfix_split : {x : Expr} → ExprShape x → (names : Names) → (expr_level x names).0 ≤ postfix → Split postfix_form (λ t. with_suffixes t.0 t.1) (expr_form postfix) names x
+pub postfix_split : {x : Expr} → ExprShape x → (names : Names) → (expr_level x names).0 ≤ postfix → Split postfix_form (λ t. with_suffixes t.0 t.1) (expr_form postfix) names x
 postfix_split (ExprShape.a_postfix a xs) names h = postfix_node a xs names h
 postfix_split (ExprShape.a_name id) names h = alone (ExprShape.a_name id) names h (omega arith)
 postfix_split (ExprShape.a_number value kind at) names h = alone (ExprShape.a_number value kind at) names h (omega arith)
