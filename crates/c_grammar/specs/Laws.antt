@@ -15,3 +15,4 @@ pub mod Forms
 pub mod SpecifierStarts
 pub mod TypeNames
 pub mod Unary
+pub mod Conditional

@@ -12,7 +12,7 @@ use Rattle.c_tree.specs.declared.expression.Expr.{Expr}
 use Rattle.c_tree.specs.Spelling.Tokens.{punct}
 use Rattle.c_tree.specs.Spelling.Trees.{expr_spelling}
 use Rattle.c_tree.specs.Levels.Names.{Names}
-use Rattle.c_tree.specs.Levels.Productions.{primary, postfix, prefixed, assignment, none, joins}
+use Rattle.c_tree.specs.Levels.Productions.{primary, postfix, prefixed, cast, assignment, none, joins}
 use Rattle.c_tree.specs.Levels.Facts.{same, where_good}
 use Rattle.c_tree.specs.Levels.Trees.{expr_level}
 use Rattle.c_tree.specs.Nesting.Trees.{expr_nesting}
@@ -198,3 +198,45 @@ no_goes_level level e names rest p ne low h =
     no_and : (a b : Bool) → b ≡ false → (a && b) ≡ false
     no_and true b h = h
     no_and false b h = refl
+
+-- no mark goes on with a production between those of suffixes and of operators
+joins_gap : (op : Punct) → postfix < joins op → cast < joins op
+joins_gap p.LeftBracket h = omega arith
+joins_gap _ h = omega arith
+
+gap_by : (a b : Bool) (j : ℕ) → (postfix < j → cast < j) → postfix < cond a none (cond b none j) → cast < cond a none (cond b none j)
+gap_by true b j f h = omega arith
+gap_by false true j f h = omega arith
+gap_by false false j f h = f h
+
+text_gap : (t : Bool) → postfix < cond t primary none → cast < cond t primary none
+text_gap true h = omega arith
+text_gap false h = omega arith
+
+pub over_gap : (e : Ending) (o : Option TokenKind) → postfix < goes_on e o → cast < goes_on e o
+over_gap e None h = omega arith
+over_gap e (Some (k.Punct op)) h = gap_by (e.size && nat_le (joins op) postfix) (not e.target && same (joins op) assignment) (joins op) (joins_gap op) h
+over_gap e (Some (k.Bytes bytes)) h = text_gap e.text h
+over_gap e (Some (k.Keyword key)) h = omega arith
+over_gap e (Some (k.Name text)) h = omega arith
+over_gap e (Some (k.Number value kind)) h = omega arith
+over_gap e (Some (k.Char value)) h = omega arith
+
+-- an assignment may stand behind or not: it makes no difference to a tighter production
+retarget_by : (a t u s : Bool) (j within : ℕ) → within < assignment → (s ≡ true → j ≡ assignment) → within < cond a none (cond (not t && s) none j) → within < cond a none (cond (not u && s) none j)
+retarget_by true t u s j within low e h = h
+retarget_by false true true s j within low e h = h
+retarget_by false true false true j within low e h = omega arith
+retarget_by false true false false j within low e h = h
+retarget_by false false true true j within low e h = let a = e refl in omega arith
+retarget_by false false true false j within low e h = h
+retarget_by false false false s j within low e h = h
+
+pub retarget : (within : ℕ) (e : Ending) (u : Bool) (o : Option TokenKind) → within < assignment → within < goes_on e o → within < goes_on (record { text = e.text; size = e.size; target = u }) o
+retarget within e u None low h = h
+retarget within e u (Some (k.Punct op)) low h = retarget_by (e.size && nat_le (joins op) postfix) e.target u (same (joins op) assignment) (joins op) within low (same-true (joins op) assignment) h
+retarget within e u (Some (k.Bytes bytes)) low h = h
+retarget within e u (Some (k.Keyword key)) low h = h
+retarget within e u (Some (k.Name text)) low h = h
+retarget within e u (Some (k.Number value kind)) low h = h
+retarget within e u (Some (k.Char value)) low h = h

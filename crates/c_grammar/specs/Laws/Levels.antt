@@ -134,7 +134,7 @@ turned_to false t true j level low h = low
 turned_to false true false j level low h = h
 turned_to false false false j level low h = h
 
-no_target_to : (level : ℕ) (e : Ending) (o : Option TokenKind) → level < none → level < goes_on e o → level < goes_on (no_target e) o
+pub no_target_to : (level : ℕ) (e : Ending) (o : Option TokenKind) → level < none → level < goes_on e o → level < goes_on (no_target e) o
 no_target_to level e None low h = h
 no_target_to level e (Some (k.Punct op)) low h = turned_to (e.size && nat_le (joins op) postfix) e.target (same (joins op) assignment) (joins op) level low h
 no_target_to level e (Some (k.Bytes bytes)) low h = h
@@ -150,7 +150,7 @@ turned_from false false true j within low e h = h
 turned_from false true false j within low e h = h
 turned_from false false false j within low e h = h
 
-no_target_from : (within : ℕ) (e : Ending) (o : Option TokenKind) → within < assignment → within < goes_on (no_target e) o → within < goes_on e o
+pub no_target_from : (within : ℕ) (e : Ending) (o : Option TokenKind) → within < assignment → within < goes_on (no_target e) o → within < goes_on e o
 no_target_from within e None low h = h
 no_target_from within e (Some (k.Punct op)) low h = turned_from (e.size && nat_le (joins op) postfix) e.target (same (joins op) assignment) (joins op) within low (same-true (joins op) assignment) h
 no_target_from within e (Some (k.Bytes bytes)) low h = h

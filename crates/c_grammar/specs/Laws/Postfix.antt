@@ -480,7 +480,7 @@ postfix_nested : (a : Expr) (xs : List Suffix) → expr_nesting (with_suffixes a
 postfix_nested a [] = omega arith
 postfix_nested a (x ∷ xs) = expr_nesting-Postfix a (x ∷ xs)
 
-postfix_spelt : (a : Expr) (xs : List Suffix) → expr_spelling (with_suffixes a xs) ≡ postfix_form.spell (a, xs)
+pub postfix_spelt : (a : Expr) (xs : List Suffix) → expr_spelling (with_suffixes a xs) ≡ postfix_form.spell (a, xs)
 postfix_spelt a [] = sym (append-nil (expr_spelling a))
 postfix_spelt a (x ∷ xs) = expr_spelling-Postfix a (x ∷ xs)
 
