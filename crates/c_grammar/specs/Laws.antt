@@ -16,3 +16,5 @@ pub mod SpecifierStarts
 pub mod TypeNames
 pub mod Unary
 pub mod Conditional
+pub mod Assignment
+pub mod Expressions
