@@ -18,3 +18,5 @@ pub mod Unary
 pub mod Conditional
 pub mod Assignment
 pub mod Expressions
+pub mod Pointers
+pub mod DeclaratorFacts
