@@ -20,3 +20,4 @@ pub mod Assignment
 pub mod Expressions
 pub mod Pointers
 pub mod DeclaratorFacts
+pub mod Middle

@@ -1,9 +1,9 @@
 -- What a parser reads, exactly: the trees of a form, each by its spelling, up to where the tokens do not go on with it.
-use Rattle.std.specs.Prelude.{◌≡◌, ℕ, ◌≤◌, max, Bool, true, false, List, [], ◌∷◌, ◌++◌, Ok, Err, refl}
+use Rattle.std.specs.Prelude.{◌≡◌, ℕ, ◌≤◌, max, Bool, true, false, if◌then◌else◌, List, [], ◌∷◌, ◌++◌, Ok, Err, refl}
 use Rattle.std.proofs.Common.{ap, sym, ◌∙◌, subst, cond, arith, append_assoc, append-nil, ◌⊎◌, inl, inr}
 use Rattle.c_tree.specs.declared.token.Token.{Token}
 use Rattle.c_tree.specs.Levels.Names.{Names}
-use Rattle.c_grammar.specs.Input.{Tokens, State, Fault, Outcome, Parser, and_then, ◌>>=◌, pure, choose}
+use Rattle.c_grammar.specs.Input.{Tokens, State, Fault, Outcome, Parser, and_then, ◌>>=◌, pure, refuse, choose}
 
 pub record Form (A : Type 0) : Type 1 where
   -- its tokens
@@ -436,3 +436,122 @@ module _ {A B : Type 0} (F : Form A) (G : Form B) where
       (choose_exact (Image inl) (Image inr) either more test (map_to p inl) (map_to q inr) (node_exact F inl either more p first left_node) (node_exact G inr either more q second right_node)
         (λ names x rest i. subst (λ x. either.good names x → either.stop x (names ++ either.adds names x) rest → test (names, either.spell x ++ rest) ≡ true) i.1 (takes names i.0 rest))
         (λ names x rest i. subst (λ x. either.good names x → either.stop x (names ++ either.adds names x) rest → test (names, either.spell x ++ rest) ≡ false) i.1 (leaves names i.0 rest)))
+
+-- ---- what is refused though it was read
+
+abbrev pub dropping : {A : Type 0} → (A → Bool) → Parser A → Parser A
+dropping test p = p >>= (λ a. if test a then refuse else pure a)
+
+abbrev pub sparing : {A : Type 0} → (A → Bool) → Form A → Form A
+sparing test F = record { spell = F.spell; good = λ names a. (test a ≡ false) × F.good names a; adds = F.adds; nest = F.nest; stop = F.stop }
+
+pub dropping_is : {A B : Type 0} (test : A → Bool) (p : Parser A) (k : A → Parser B) (i : State) → (p >>= (λ a. if test a then refuse else k a)) i ≡ (dropping test p >>= k) i
+dropping_is {A} {B} test p k i = by (p i) where
+  side : (a : A) (s : State) (b : Bool) → cond b refuse (k a) s ≡ and_then (cond b refuse (pure a) s) k
+  side a s true = refl
+  side a s false = refl
+  by : (o : Outcome A) → and_then o (λ a. cond (test a) refuse (k a)) ≡ and_then (and_then o (λ a. cond (test a) refuse (pure a))) k
+  by (Ok r) = side r.0 r.1 (test r.0)
+  by (Err e) = refl
+
+module _ {A : Type 0} (test : A → Bool) (F : Form A) (more : ℕ) (p : Parser A) (exact : Exact F more p) where
+  spared : (names : Names) (ts : Tokens) (a x : A) (mid s : State) (b : Bool) → test a ≡ b → cond b refuse (pure a) mid ≡ Ok (x, s) → Got F more names ts a mid → Got (sparing test F) more names ts x s
+  spared names ts a x mid s true e h g = absurd cc
+  spared names ts a x mid s false e h g =
+      let w = ok_pair {A = A} a x mid s h in
+      subst2 (λ (x : A) (s : State). Got (sparing test F) more names ts x s) w.0 w.1 (record { good = (e, g.good); nested = g.nested; spelt = g.spelt; seen = g.seen; stops = g.stops })
+
+  pub dropping_exact : Exact (sparing test F) more (dropping test p)
+  dropping_exact = record {
+      sound = λ names ts x s h.
+          let b = bind_ok (p (names, ts)) _ _ h in
+          let a : A = b.0.0 in
+          let mid : State = b.0.1 in
+          spared names ts a x mid s (test a) refl b.2 (exact.sound names ts a mid b.1);
+      complete = λ names x rest g n s.
+          ap (λ o. and_then o (λ a. cond (test a) refuse (pure a))) (exact.complete names x rest g.1 n s) ∙ ap (λ b. cond b refuse (pure x) (names ++ F.adds names x, rest)) g.0;
+    }
+
+-- ---- what is read exactly where something is known of the state
+
+pub record Guarded {A : Type 0} (known : State → Type 0) (F : Form A) (more : ℕ) (reads : Parser A) : Type 0 where
+  pub sound : (names : Names) (ts : Tokens) (x : A) (s : State) → known (names, ts) → reads (names, ts) ≡ Ok (x, s) → Got F more names ts x s
+  pub complete : (names : Names) (x : A) (rest : Tokens) → F.good names x → F.nest x ≤ more → F.stop x (names ++ F.adds names x) rest
+      → reads (names, F.spell x ++ rest) ≡ Ok (x, (names ++ F.adds names x, rest))
+
+pub guarded_exact : {A : Type 0} (F : Form A) (more : ℕ) (reads : Parser A) → Guarded (λ i. Unit {0}) F more reads → Exact F more reads
+guarded_exact F more reads g = record { sound = λ names ts x s h. g.sound names ts x s tt h; complete = g.complete }
+
+pub same_guarded : {A : Type 0} (known : State → Type 0) (F : Form A) (more : ℕ) (p q : Parser A) → ((i : State) → q i ≡ p i) → Guarded known F more p → Guarded known F more q
+same_guarded known F more p q same g = record {
+    sound = λ names ts x s k h. g.sound names ts x s k (sym (same (names, ts)) ∙ h);
+    complete = λ names x rest a n s. same (names, F.spell x ++ rest) ∙ g.complete names x rest a n s;
+  }
+
+-- a node that is good where something is known of what it was read from
+pub record GuardedNode {T C : Type 0} (known : State → Type 0) (F : Form T) (f : T → C) (H : Form C) : Type 0 where
+  pub good : (names : Names) (t : T) (rest : Tokens) → F.good names t → known (names, F.spell t ++ rest) → H.good names (f t)
+  pub parts : (names : Names) (t : T) → H.good names (f t) → F.good names t
+  pub nested : (t : T) → H.nest (f t) ≡ F.nest t
+  pub spelt : (t : T) → H.spell (f t) ≡ F.spell t
+  pub seen : (names : Names) (t : T) → H.adds names (f t) ≡ F.adds names t
+  pub stop : (names : Names) (t : T) (behind : Names) (rest : Tokens) → F.good names t → F.stop t behind rest → H.stop (f t) behind rest
+  pub from_stop : (names : Names) (t : T) (behind : Names) (rest : Tokens) → F.good names t → H.stop (f t) behind rest → F.stop t behind rest
+
+module _ {T C : Type 0} (known : State → Type 0) (F : Form T) (f : T → C) (H : Form C) (more : ℕ) (p : Parser T) (exact : Exact F more p) (node : GuardedNode known F f H) where
+  guarded_sound : (names : Names) (ts : Tokens) (c : C) (s : State) → known (names, ts) → map_to p f (names, ts) ≡ Ok (c, s) → Got (only (Image f) H) more names ts c s
+  guarded_sound names ts c s k h =
+      let b = bind_ok (p (names, ts)) _ _ h in
+      let t : T = b.0.0 in
+      let end : State = b.0.1 in
+      let g = exact.sound names ts t end b.1 in
+      let w = ok_pair {A = C} (f t) c end s b.2 in
+      let n : H.nest (f t) ≤ more = subst (λ m. m ≤ more) (sym (node.nested t)) g.nested in
+      let whole : Got (only (Image f) H) more names ts (f t) end = record {
+            good = ((t, refl), node.good names t end.1 g.good (subst (λ l. known (names, l)) g.spelt k));
+            nested = n;
+            spelt = g.spelt ∙ ap (λ l. l ++ end.1) (sym (node.spelt t));
+            seen = g.seen ∙ ap (λ l. names ++ l) (sym (node.seen names t));
+            stops = node.stop names t end.0 end.1 g.good g.stops;
+          } in
+      subst2 (λ (c : C) (s : State). Got (only (Image f) H) more names ts c s) w.0 w.1 whole
+
+  guarded_at : (names : Names) (t : T) (rest : Tokens) → H.good names (f t) → H.nest (f t) ≤ more → H.stop (f t) (names ++ H.adds names (f t)) rest
+      → map_to p f (names, H.spell (f t) ++ rest) ≡ Ok (f t, (names ++ H.adds names (f t), rest))
+  guarded_at names t rest good deep stops =
+      let g = node.parts names t good in
+      let m : F.nest t ≤ more = subst (λ m. m ≤ more) (node.nested t) deep in
+      let e = node.seen names t in
+      let st : H.stop (f t) (names ++ F.adds names t) rest = subst (λ n. H.stop (f t) (names ++ n) rest) e stops in
+      let c = exact.complete names t rest g m (node.from_stop names t (names ++ F.adds names t) rest g st) in
+      let end : Names → Outcome C = λ n. Ok (f t, (names ++ n, rest)) in
+      ap (λ (l : Tokens). map_to p f (names, l ++ rest)) (node.spelt t) ∙ ap (λ o. and_then o (λ t. pure (f t))) c ∙ ap end (sym e)
+
+  pub guarded_node : Guarded known (only (Image f) H) more (map_to p f)
+  guarded_node = record {
+      sound = guarded_sound;
+      complete = λ names c rest g deep stops.
+          subst (λ c. H.good names c → H.nest c ≤ more → H.stop c (names ++ H.adds names c) rest → map_to p f (names, H.spell c ++ rest) ≡ Ok (c, (names ++ H.adds names c, rest))) g.0.1
+              (guarded_at names g.0.0 rest) g.1 deep stops;
+    }
+
+module _ {A : Type 0} (known : State → Type 0) (w v : A → Type 0) (H : Form A) (more : ℕ) (test : State → Bool) (p q : Parser A)
+    (left : Guarded (λ i. known i × (test i ≡ true)) (only w H) more p) (right : Guarded (λ i. known i × (test i ≡ false)) (only v H) more q)
+    (takes : (names : Names) (x : A) (rest : Tokens) → w x → H.good names x → H.stop x (names ++ H.adds names x) rest → test (names, H.spell x ++ rest) ≡ true)
+    (leaves : (names : Names) (x : A) (rest : Tokens) → v x → H.good names x → H.stop x (names ++ H.adds names x) rest → test (names, H.spell x ++ rest) ≡ false) where
+  by_known : (b : Bool) (names : Names) (ts : Tokens) (x : A) (s : State) → known (names, ts) → test (names, ts) ≡ b → cond b (p (names, ts)) (q (names, ts)) ≡ Ok (x, s) → Got (only (λ x. w x ⊎ v x) H) more names ts x s
+  by_known true names ts x s k e h = let g = left.sound names ts x s (k, e) h in record { good = (inl g.good.0, g.good.1); nested = g.nested; spelt = g.spelt; seen = g.seen; stops = g.stops }
+  by_known false names ts x s k e h = let g = right.sound names ts x s (k, e) h in record { good = (inr g.good.0, g.good.1); nested = g.nested; spelt = g.spelt; seen = g.seen; stops = g.stops }
+
+  by_one : (names : Names) (x : A) (rest : Tokens) → w x ⊎ v x → H.good names x → H.nest x ≤ more → H.stop x (names ++ H.adds names x) rest
+      → choose test p q (names, H.spell x ++ rest) ≡ Ok (x, (names ++ H.adds names x, rest))
+  by_one names x rest (inl i) g n s =
+      ap (λ b. cond b (p (names, H.spell x ++ rest)) (q (names, H.spell x ++ rest))) (takes names x rest i g s) ∙ left.complete names x rest (i, g) n s
+  by_one names x rest (inr i) g n s =
+      ap (λ b. cond b (p (names, H.spell x ++ rest)) (q (names, H.spell x ++ rest))) (leaves names x rest i g s) ∙ right.complete names x rest (i, g) n s
+
+  pub choose_guarded : Guarded known (only (λ x. w x ⊎ v x) H) more (choose test p q)
+  choose_guarded = record {
+      sound = λ names ts x s k h. by_known (test (names, ts)) names ts x s k refl h;
+      complete = λ names x rest g n s. by_one names x rest g.0 g.1 n s;
+    }
