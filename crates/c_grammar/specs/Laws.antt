@@ -21,3 +21,4 @@ pub mod Expressions
 pub mod Pointers
 pub mod DeclaratorFacts
 pub mod Middle
+pub mod Parameters

@@ -198,3 +198,61 @@ parts_declare Abstract typed d names g h =
 parts_declare Parameter typed d names g h =
     ap (λ f. declares Parameter typed (f names).0) (declarator_level-is d)
     ∙ joined_all (direct_level (out-Declarator d).direct names).0.good (suffixes_good (in_row (map declarator_suffix_level (out-Declarator d).suffixes) (names ++ (direct_level (out-Declarator d).direct names).1)).0) _ g h
+
+-- ---- nothing has no token and tells nothing
+
+direct_none : {x : Direct} → DirectShape x → is_no_name x ≡ true → direct_spelling x ≡ []
+unfolding is_no_name out-Direct out
+direct_none DirectShape.a_nothing h = direct_spelling-Nothing
+direct_none (DirectShape.a_named id) h = absurd cc
+direct_none (DirectShape.a_grouped from d to) h = absurd cc
+
+direct_adds : {x : Direct} → DirectShape x → (names : Names) → is_no_name x ≡ true → (direct_level x names).1 ≡ []
+unfolding is_no_name out-Direct out
+direct_adds DirectShape.a_nothing names h = ap (λ f. (f names).1) direct_level-Nothing
+direct_adds (DirectShape.a_named id) names h = absurd cc
+direct_adds (DirectShape.a_grouped from d to) names h = absurd cc
+
+parts_none : (qs : List Pointer) (x : Direct) (xs : List DeclaratorSuffix) → (not (filled qs) && (is_no_name x && not (filled xs))) ≡ true
+    → pointers_spelling qs ++ (direct_spelling x ++ joined (map declarator_suffix_spelling xs)) ≡ []
+parts_none (q ∷ qs) x xs h = absurd cc
+parts_none [] x (y ∷ ys) h = absurd (let e : false ≡ true = (both_true (is_no_name x) false h).1 in cc)
+parts_none [] x [] h = ap (λ l. l ++ []) (direct_none (direct_shape x) (both_true (is_no_name x) true h).0)
+
+parts_add : (qs : List Pointer) (x : Direct) (xs : List DeclaratorSuffix) (names : Names) → (not (filled qs) && (is_no_name x && not (filled xs))) ≡ true
+    → (direct_level x names).1 ++ (in_row (map declarator_suffix_level xs) (names ++ (direct_level x names).1)).1 ≡ []
+parts_add (q ∷ qs) x xs names h = absurd cc
+parts_add [] x (y ∷ ys) names h = absurd (let e : false ≡ true = (both_true (is_no_name x) false h).1 in cc)
+parts_add [] x [] names h = append-nil (direct_level x names).1 ∙ direct_adds (direct_shape x) names (both_true (is_no_name x) true h).0
+
+pub nothing_spelling : (d : Declarator) → is_nothing d ≡ true → declarator_spelling d ≡ []
+nothing_spelling d h = let q = out-Declarator d in declarator_spelling-is d ∙ parts_none q.pointers q.direct q.suffixes (sym (nothing_parts d) ∙ h)
+
+pub nothing_adds : (d : Declarator) (names : Names) → is_nothing d ≡ true → (declarator_level d names).1 ≡ []
+nothing_adds d names h = let q = out-Declarator d in ap (λ f. (f names).1) (declarator_level-is d) ∙ parts_add q.pointers q.direct q.suffixes names (sym (nothing_parts d) ∙ h)
+
+no_name_of : (qs : List Pointer) (x : Direct) (xs : List DeclaratorSuffix) → (not (filled qs) && (is_no_name x && not (filled xs))) ≡ true → is_no_name x ≡ true
+no_name_of (q ∷ qs) x xs h = absurd cc
+no_name_of [] x xs h = (both_true (is_no_name x) _ h).0
+
+pub nothing_middle : (d : Declarator) → is_nothing d ≡ true → is_no_name (out-Declarator d).direct ≡ true
+nothing_middle d h = let q = out-Declarator d in no_name_of q.pointers q.direct q.suffixes (sym (nothing_parts d) ∙ h)
+
+spelt_by : (d : Declarator) (b : Bool) → is_nothing d ≡ b → (t : Token) (ts : Tokens) → declarator_spelling d ≡ t ∷ ts → is_nothing d ≡ false
+spelt_by d true e t ts h = absurd (let n : ◌≡◌ {A = Tokens} [] (t ∷ ts) = sym (nothing_spelling d e) ∙ h in cc)
+spelt_by d false e t ts h = e
+
+-- a declarator with tokens is not nothing, and one without is
+pub spelt_something : (d : Declarator) (t : Token) (ts : Tokens) → declarator_spelling d ≡ t ∷ ts → is_nothing d ≡ false
+spelt_something d t ts h = spelt_by d (is_nothing d) refl t ts h
+
+spelt_none_by : (d : Declarator) (b : Bool) → is_nothing d ≡ b → declarator_spelling d ≡ [] → is_nothing d ≡ true
+spelt_none_by d true e h = e
+spelt_none_by d false e h = let f = declarator_first [] d e in absurd (let n : ◌≡◌ {A = Tokens} [] (f.first ∷ f.others) = sym h ∙ f.spelt in cc)
+
+pub spelt_none : (d : Declarator) → declarator_spelling d ≡ [] → is_nothing d ≡ true
+spelt_none d h = spelt_none_by d (is_nothing d) refl h
+
+-- the first token is that of any spelling
+pub first_of : (typed : Bool) (names : Names) (d t : Token) (ts os : Tokens) → ◌≡◌ {A = Tokens} (d ∷ os) (t ∷ ts) → FirstToken typed names d.kind → FirstToken typed names t.kind
+first_of typed names d t ts os e f = let h : d ≡ t = cc in subst (λ (u : Token). FirstToken typed names u.kind) h f

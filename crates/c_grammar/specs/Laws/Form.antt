@@ -3,7 +3,7 @@ use Rattle.std.specs.Prelude.{◌≡◌, ℕ, ◌≤◌, max, Bool, true, false,
 use Rattle.std.proofs.Common.{ap, sym, ◌∙◌, subst, cond, arith, append_assoc, append-nil, ◌⊎◌, inl, inr}
 use Rattle.c_tree.specs.declared.token.Token.{Token}
 use Rattle.c_tree.specs.Levels.Names.{Names}
-use Rattle.c_grammar.specs.Input.{Tokens, State, Fault, Outcome, Parser, and_then, ◌>>=◌, pure, refuse, choose}
+use Rattle.c_grammar.specs.Input.{Tokens, State, Fault, Outcome, Parser, and_then, ◌>>=◌, pure, refuse, choose, enclosed}
 
 pub record Form (A : Type 0) : Type 1 where
   -- its tokens
@@ -555,3 +555,88 @@ module _ {A : Type 0} (known : State → Type 0) (w v : A → Type 0) (H : Form 
       sound = λ names ts x s k h. by_known (test (names, ts)) names ts x s k refl h;
       complete = λ names x rest g n s. by_one names x rest g.0 g.1 n s;
     }
+
+-- ---- what declares for what stands behind it, and what does not
+
+-- what was read declares more names, as they are at its beginning
+abbrev pub declaring : {A : Type 0} → (Names → A → Names) → Parser A → Parser A
+declaring extra p = λ i. and_then (p i) (λ a j. Ok (a, (j.0 ++ extra i.0 a, j.1)))
+
+abbrev pub declaring_form : {A : Type 0} → (Names → A → Names) → Form A → Form A
+declaring_form extra F = record { spell = F.spell; good = F.good; adds = λ names a. F.adds names a ++ extra names a; nest = F.nest; stop = F.stop }
+
+pub declaring_exact : {A : Type 0} (extra : Names → A → Names) (F : Form A) (more : ℕ) (p : Parser A) → Exact F more p
+    → ((names : Names) (a : A) (rest : Tokens) → F.good names a → F.stop a (names ++ F.adds names a) rest → F.stop a (names ++ (F.adds names a ++ extra names a)) rest)
+    → ((names : Names) (a : A) (rest : Tokens) → F.good names a → F.stop a (names ++ (F.adds names a ++ extra names a)) rest → F.stop a (names ++ F.adds names a) rest)
+    → Exact (declaring_form extra F) more (declaring extra p)
+declaring_exact {A} extra F more p exact to from = record {
+    sound = λ names ts x s h.
+        let b = bind_ok (p (names, ts)) _ _ h in
+        let a : A = b.0.0 in
+        let mid : State = b.0.1 in
+        let g = exact.sound names ts a mid b.1 in
+        let w = ok_pair {A = A} a x (mid.0 ++ extra names a, mid.1) s b.2 in
+        let n : mid.0 ++ extra names a ≡ names ++ (F.adds names a ++ extra names a) = ap (λ l. l ++ extra names a) g.seen ∙ append_assoc names (F.adds names a) (extra names a) in
+        subst2 (λ (x : A) (s : State). Got (declaring_form extra F) more names ts x s) w.0 w.1 (record {
+          good = g.good; nested = g.nested; spelt = g.spelt; seen = n;
+          stops = subst (λ m. F.stop a m mid.1) (sym n) (to names a mid.1 g.good (subst (λ m. F.stop a m mid.1) g.seen g.stops));
+        });
+    complete = λ names x rest g n s.
+        let end : Names → Outcome A = λ m. Ok (x, (m, rest)) in
+        ap (λ o. and_then o (λ a j. Ok (a, (j.0 ++ extra names a, j.1)))) (exact.complete names x rest g n (from names x rest g s)) ∙ ap end (append_assoc names (F.adds names x) (extra names x));
+  }
+
+-- what it declares ends with it
+abbrev pub quieted : {A : Type 0} → Form A → Form A
+quieted F = record { spell = F.spell; good = F.good; adds = λ names a. []; nest = F.nest; stop = F.stop }
+
+pub enclosed_guarded : {A : Type 0} (known : State → Type 0) (F : Form A) (more : ℕ) (p : Parser A) → ((a : A) (names : Names) (rest : Tokens) → F.stop a names rest) → Guarded known F more p → Guarded known (quieted F) more (enclosed p)
+enclosed_guarded {A} known F more p free exact = record {
+    sound = λ names ts x s know h.
+        let b = bind_ok (p (names, ts)) _ _ h in
+        let a : A = b.0.0 in
+        let mid : State = b.0.1 in
+        let g = exact.sound names ts a mid know b.1 in
+        let w = ok_pair {A = A} a x (names, mid.1) s b.2 in
+        subst2 (λ (x : A) (s : State). Got (quieted F) more names ts x s) w.0 w.1 (record { good = g.good; nested = g.nested; spelt = g.spelt; seen = sym (append-nil names); stops = free a names mid.1 });
+    complete = λ names x rest g n s.
+        let end : Names → Outcome A = λ m. Ok (x, (m, rest)) in
+        ap (λ o. and_then o (λ a j. Ok (a, (names, j.1)))) (exact.complete names x rest g n (free x (names ++ F.adds names x) rest)) ∙ ap end (sym (append-nil names));
+  }
+
+pub enclosed_map : {A B : Type 0} (p : Parser A) (f : A → B) (i : State) → enclosed (map_to p f) i ≡ map_to (enclosed p) f i
+enclosed_map {A} {B} p f i = by (p i) where
+  by : (o : Outcome A) → and_then (and_then o (λ a. pure (f a))) (λ b j. Ok (b, (i.0, j.1))) ≡ and_then (and_then o (λ a j. Ok (a, (i.0, j.1)))) (λ a. pure (f a))
+  by (Ok r) = refl
+  by (Err e) = refl
+
+-- one form or another, where the second is read only where the test does not hold
+module _ {A B : Type 0} (F : Form A) (G : Form B) (more : ℕ) (test : State → Bool) (p : Parser A) (q : Parser B) (first : Exact F more p) (second : Guarded (λ i. test i ≡ false) G more q)
+    (takes : (names : Names) (a : A) (rest : Tokens) → F.good names a → F.stop a (names ++ F.adds names a) rest → test (names, F.spell a ++ rest) ≡ true)
+    (leaves : (names : Names) (b : B) (rest : Tokens) → G.good names b → G.stop b (names ++ G.adds names b) rest → test (names, G.spell b ++ rest) ≡ false) where
+  either_by : (b : Bool) (names : Names) (ts : Tokens) (x : A ⊎ B) (s : State) → test (names, ts) ≡ b → cond b (map_to p inl (names, ts)) (map_to q inr (names, ts)) ≡ Ok (x, s) → Got (either F G) more names ts x s
+  either_by true names ts x s e h =
+      let b = bind_ok (p (names, ts)) _ _ h in
+      let g = first.sound names ts b.0.0 b.0.1 b.1 in
+      let w = ok_pair {A = A ⊎ B} (inl b.0.0) x b.0.1 s b.2 in
+      subst2 (λ (x : A ⊎ B) (s : State). Got (either F G) more names ts x s) w.0 w.1 (record { good = g.good; nested = g.nested; spelt = g.spelt; seen = g.seen; stops = g.stops })
+  either_by false names ts x s e h =
+      let b = bind_ok (q (names, ts)) _ _ h in
+      let g = second.sound names ts b.0.0 b.0.1 e b.1 in
+      let w = ok_pair {A = A ⊎ B} (inr b.0.0) x b.0.1 s b.2 in
+      subst2 (λ (x : A ⊎ B) (s : State). Got (either F G) more names ts x s) w.0 w.1 (record { good = g.good; nested = g.nested; spelt = g.spelt; seen = g.seen; stops = g.stops })
+
+  either_of : (names : Names) (x : A ⊎ B) (rest : Tokens) → (either F G).good names x → (either F G).nest x ≤ more → (either F G).stop x (names ++ (either F G).adds names x) rest
+      → choose test (map_to p inl) (map_to q inr) (names, (either F G).spell x ++ rest) ≡ Ok (x, (names ++ (either F G).adds names x, rest))
+  either_of names (inl a) rest g n s =
+      ap (λ b. cond b (map_to p inl (names, F.spell a ++ rest)) (map_to q inr (names, F.spell a ++ rest))) (takes names a rest g s) ∙ ap (λ o. and_then o (λ a. pure (inl a))) (first.complete names a rest g n s)
+  either_of names (inr b) rest g n s =
+      ap (λ c. cond c (map_to p inl (names, G.spell b ++ rest)) (map_to q inr (names, G.spell b ++ rest))) (leaves names b rest g s) ∙ ap (λ o. and_then o (λ b. pure (inr b))) (second.complete names b rest g n s)
+
+  pub either_guarded : Exact (either F G) more (choose test (map_to p inl) (map_to q inr))
+  either_guarded = record { sound = λ names ts x s h. either_by (test (names, ts)) names ts x s refl h; complete = either_of }
+
+pub declaring_map : {A B : Type 0} (o : Outcome A) (e : A → Names) (f : A → B)
+    → and_then o (λ a j. Ok (f a, (j.0 ++ e a, j.1))) ≡ and_then (and_then o (λ a j. Ok (a, (j.0 ++ e a, j.1)))) (λ a. pure (f a))
+declaring_map (Ok r) e f = refl
+declaring_map (Err x) e f = refl
