@@ -22,3 +22,4 @@ pub mod Pointers
 pub mod DeclaratorFacts
 pub mod Middle
 pub mod Parameters
+pub mod VoidParameters

@@ -315,6 +315,9 @@ parameter_is inner more comma i =
         ≡ (declaring (parameter_names (have_typedef specifiers)) (inner.declarator Parameter (name_type specifiers)) >>= (λ d. pure (parameter_with comma (specifiers, d)))) j
     behind_is specifiers j = declaring_map (inner.declarator Parameter (name_type specifiers) j) (λ d. names_of (have_typedef specifiers) (declarator_level d j.0).0.name) (λ d. parameter_with comma (specifiers, d))
 
+pub good_parts : (names : Names) (x : ParameterTree) → (parameter_level x names).0.good ≡ true → raised.good names (parts_of_parameter x)
+good_parts names x h = good_parameter (out-Parameter x).comma names (parts_of_parameter x) (subst (λ x. (parameter_level x names).0.good ≡ true) (sym (roll-out-Parameter x)) h)
+
 -- the first parameter has no comma before it, and each other one has
 
 abbrev pub first_parameter : Form ParameterTree
