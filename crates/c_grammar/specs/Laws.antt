@@ -23,3 +23,4 @@ pub mod DeclaratorFacts
 pub mod Middle
 pub mod Parameters
 pub mod VoidParameters
+pub mod Declarators

@@ -78,7 +78,7 @@ and_no : (b : Bool) → (b && false) ≡ false
 and_no true = refl
 and_no false = refl
 
-specifier_no_close : (w typed : Bool) (names : Names) (kind : TokenKind) → begins_specifier w typed names (Some kind) ≡ true → is_mark p.RightParen (Some kind) ≡ false
+pub specifier_no_close : (w typed : Bool) (names : Names) (kind : TokenKind) → begins_specifier w typed names (Some kind) ≡ true → is_mark p.RightParen (Some kind) ≡ false
 specifier_no_close w typed names (k.Keyword key) h = refl
 specifier_no_close w typed names (k.Name text) h = refl
 specifier_no_close w typed names (k.Punct op) h = absurd cc
