@@ -24,3 +24,4 @@ pub mod Middle
 pub mod Parameters
 pub mod VoidParameters
 pub mod Declarators
+pub mod Enumerators

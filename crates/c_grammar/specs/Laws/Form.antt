@@ -3,7 +3,7 @@ use Rattle.std.specs.Prelude.{◌≡◌, ℕ, ◌≤◌, max, Bool, true, false,
 use Rattle.std.proofs.Common.{ap, sym, ◌∙◌, subst, cond, arith, append_assoc, append-nil, ◌⊎◌, inl, inr}
 use Rattle.c_tree.specs.declared.token.Token.{Token}
 use Rattle.c_tree.specs.Levels.Names.{Names}
-use Rattle.c_grammar.specs.Input.{Tokens, State, Fault, Outcome, Parser, and_then, ◌>>=◌, pure, refuse, choose, enclosed}
+use Rattle.c_grammar.specs.Input.{Tokens, State, Fault, Outcome, Parser, and_then, ◌>>=◌, pure, refuse, choose, declare, enclosed}
 
 pub record Form (A : Type 0) : Type 1 where
   -- its tokens
@@ -640,3 +640,29 @@ pub declaring_map : {A B : Type 0} (o : Outcome A) (e : A → Names) (f : A → 
     → and_then o (λ a j. Ok (f a, (j.0 ++ e a, j.1))) ≡ and_then (and_then o (λ a j. Ok (a, (j.0 ++ e a, j.1)))) (λ a. pure (f a))
 declaring_map (Ok r) e f = refl
 declaring_map (Err x) e f = refl
+
+-- ---- nothing, where a token does not come next
+
+abbrev pub without : (State → Bool) → Form (Unit {0})
+without test = record { spell = λ u. []; good = λ names u. Unit {0}; adds = λ names u. []; nest = λ u. 0; stop = λ u names rest. test (names, rest) ≡ false }
+
+pub without_guarded : (test : State → Bool) (more : ℕ) → Guarded (λ i. test i ≡ false) (without test) more (pure tt)
+without_guarded test more = record {
+    sound = λ names ts x s known h.
+        let w = ok_pair {A = Unit {0}} tt x (names, ts) s h in
+        subst (λ (s : State). Got (without test) more names ts x s) w.1 (record { good = tt; nested = omega arith; spelt = refl; seen = sym (append-nil names); stops = known });
+    complete = λ names x rest g n s. let end : Names → Outcome (Unit {0}) = λ m. Ok (x, (m, rest)) in ap end (sym (append-nil names));
+  }
+
+-- what declares names by its first part
+pub declare_two : {A B C : Type 0} (p : Parser A) (q : A → Parser B) (e : A → Names) (f : A → B → C) (i : State)
+    → (p >>= (λ a. (q a >>= (λ b. pure (f a b))) >>= (λ x. declare (e a) >>= (λ u. pure x)))) i ≡ map_to (declaring (λ n t. e t.0) (both p q)) (λ t. f t.0 t.1) i
+declare_two {A} {B} {C} p q e f i = by (p i) where
+  second : (a : A) (o : Outcome B) → and_then (and_then o (λ b. pure (f a b))) (λ x. declare (e a) >>= (λ u. pure x))
+      ≡ and_then (and_then (and_then o (λ b. pure (a, b))) (λ (t : A × B) j. Ok (t, (j.0 ++ e t.0, j.1)))) (λ t. pure (f t.0 t.1))
+  second a (Ok r) = refl
+  second a (Err x) = refl
+  by : (o : Outcome A) → and_then o (λ a. (q a >>= (λ b. pure (f a b))) >>= (λ x. declare (e a) >>= (λ u. pure x)))
+      ≡ and_then (and_then (and_then o (λ a. q a >>= (λ b. pure (a, b)))) (λ (t : A × B) j. Ok (t, (j.0 ++ e t.0, j.1)))) (λ t. pure (f t.0 t.1))
+  by (Ok r) = second r.0 (q r.0 r.1)
+  by (Err x) = refl
