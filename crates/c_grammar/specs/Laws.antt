@@ -25,3 +25,4 @@ pub mod Parameters
 pub mod VoidParameters
 pub mod Declarators
 pub mod Enumerators
+pub mod Members
