@@ -26,3 +26,4 @@ pub mod VoidParameters
 pub mod Declarators
 pub mod Enumerators
 pub mod Members
+pub mod Specifiers

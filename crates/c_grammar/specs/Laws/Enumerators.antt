@@ -111,11 +111,11 @@ abbrev layer_stop : EnumeratorLayer → Names → Tokens → Type 0
 layer_stop (Enumerator-F.Plain comma id) names rest = sees p.Assign (names, rest) ≡ false
 layer_stop (Enumerator-F.Valued comma id equals value) names rest = conditional < goes_on (expr_ending value) (peek rest)
 
-abbrev layer_nest : EnumeratorLayer → ℕ
+abbrev pub layer_nest : EnumeratorLayer → ℕ
 layer_nest (Enumerator-F.Plain comma id) = 0
 layer_nest (Enumerator-F.Valued comma id equals value) = expr_nesting value + 1
 
-abbrev layer_comma : EnumeratorLayer → Option Pos
+abbrev pub layer_comma : EnumeratorLayer → Option Pos
 layer_comma (Enumerator-F.Plain comma id) = comma
 layer_comma (Enumerator-F.Valued comma id equals value) = comma
 
@@ -370,3 +370,23 @@ enum_body_exact more inner exact =
       (λ names a y rest g h st. enumerator_then a.1 y _ rest h.0))
     (λ t. closed_exact comma_form p.RightBrace more optional_comma (optional_exact more) (λ names c at rest g. comma_closes c _ at rest))
     (λ names t c rest g h s. braced_closes t c.0 c.1 _ rest)
+
+-- ---- what the levels and the nesting tell
+
+shape_comma : {x : Enumerator} → EnumeratorShape x → (names : Names) → (enumerator_level x names).0.comma ≡ is_some (layer_comma (out-Enumerator x))
+shape_comma (EnumeratorShape.a_plain comma id) names = made_comma comma names id (inr tt) ∙ ap is_some (sym (comma_by comma id (inr tt)))
+shape_comma (EnumeratorShape.a_valued comma id equals value) names = made_comma comma names id (inl (equals, value)) ∙ ap is_some (sym (comma_by comma id (inl (equals, value))))
+
+pub comma_told : (x : Enumerator) (names : Names) → (enumerator_level x names).0.comma ≡ is_some (layer_comma (out-Enumerator x))
+comma_told x names = shape_comma (enumerator_shape x) names
+
+shape_deep : {x : Enumerator} → EnumeratorShape x → max 1 (layer_nest (out-Enumerator x)) ≡ enumerator_nesting x + 1
+shape_deep (EnumeratorShape.a_plain comma id) =
+    ap (λ l. max 1 (layer_nest l)) (made_layer comma id (inr tt)) ∙ ap (λ n. n + 1) (sym (enumerator_nesting-Plain comma id))
+shape_deep (EnumeratorShape.a_valued comma id equals value) =
+    ap (λ l. max 1 (layer_nest l)) (made_layer comma id (inl (equals, value))) ∙ (let e = enumerator_nesting-Valued comma id equals value in omega arith)
+
+-- each in its braces
+pub enumerator_deep : (m : ℕ) (xs : List Enumerator) → max (max 1 m) (deepest (map (λ x. layer_nest (out-Enumerator x)) xs)) ≡ max (max 1 m) (deepest (map enumerator_nesting xs) + 1)
+enumerator_deep m [] = omega arith
+enumerator_deep m (x ∷ xs) = let e = enumerator_deep m xs in let d = shape_deep (enumerator_shape x) in omega arith

@@ -666,3 +666,13 @@ declare_two {A} {B} {C} p q e f i = by (p i) where
       ≡ and_then (and_then (and_then o (λ a. q a >>= (λ b. pure (a, b)))) (λ (t : A × B) j. Ok (t, (j.0 ++ e t.0, j.1)))) (λ t. pure (f t.0 t.1))
   by (Ok r) = second r.0 (q r.0 r.1)
   by (Err x) = refl
+
+-- five in a row, the last two taken together
+pub five_pair : {A B C D E T : Type 0} (p : Parser A) (q : A → Parser B) (r : A → B → Parser C) (u : Parser D) (v : Parser E) (f : A → B → C → D → E → T) (i : State)
+    → (p >>= (λ a. q a >>= (λ b. r a b >>= (λ c. u >>= (λ d. v >>= (λ e. pure (f a b c d e))))))) i
+    ≡ map_to (both (both (both p q) (λ t. r t.0 t.1)) (λ t. both u (λ d. v))) (λ t. f t.0.0.0 t.0.0.1 t.0.1 t.1.0 t.1.1) i
+five_pair p q r u v f i =
+    together p q (λ a b. r a b >>= (λ c. u >>= (λ d. v >>= (λ e. pure (f a b c d e))))) i
+    ∙ together (both p q) (λ t. r t.0 t.1) (λ t c. u >>= (λ d. v >>= (λ e. pure (f t.0 t.1 c d e)))) i
+    ∙ bind_same (both (both p q) (λ t. r t.0 t.1)) (λ t. u >>= (λ d. v >>= (λ e. pure (f t.0.0 t.0.1 t.1 d e)))) (λ t. both u (λ d. v) >>= (λ c. pure (f t.0.0 t.0.1 t.1 c.0 c.1))) (λ t j. two u (λ d. v) (λ d e. f t.0.0 t.0.1 t.1 d e) j) i
+    ∙ two (both (both p q) (λ t. r t.0 t.1)) (λ t. both u (λ d. v)) (λ t c. f t.0.0 t.0.1 t.1 c.0 c.1) i
