@@ -22,7 +22,7 @@ use Rattle.c_tree.specs.declared.specifier.Enumerator.{Enumerator, out-Enumerato
 use Rattle.c_tree.specs.Spelling.Tokens.{token, punct, keyword, name as name_token, name_at, comma_at, joined, storage_word, type_word}
 use Rattle.c_tree.specs.Spelling.Trees.{specifier_spelling, member_spelling, enumerator_spelling, specifier_spelling-Storage, specifier_spelling-Const, specifier_spelling-Word, specifier_spelling-StructTag, specifier_spelling-Struct, specifier_spelling-EnumTag, specifier_spelling-Enum, specifier_spelling-TypedefName}
 use Rattle.c_tree.specs.Levels.Names.{Names, is_typedef_name, in_row}
-use Rattle.c_tree.specs.Levels.Facts.{filled, all_good as all_true, SpecifierKind, Storing, Qualifying, Voiding, Typing, Naming, ListedFacts, listed, rest_listed}
+use Rattle.c_tree.specs.Levels.Facts.{Use, filled, all_good as all_true, SpecifierKind, Storing, Qualifying, Voiding, Typing, Naming, ListedFacts, listed, rest_listed}
 use Rattle.c_tree.specs.Levels.OfTrees.{kind_of_word}
 use Rattle.c_tree.specs.Levels.Trees.{specifier_level, member_level, enumerator_level, specifier_level-Storage, specifier_level-Const, specifier_level-Word, specifier_level-StructTag, specifier_level-Struct, specifier_level-EnumTag, specifier_level-Enum, specifier_level-TypedefName, enumerator_level-Plain, enumerator_level-Valued}
 use Rattle.c_tree.specs.Levels.Productions.{conditional}
@@ -283,3 +283,434 @@ tagged_is {B} word body f i =
         (λ j. refl) j
         ∙ choose_map (λ i. is_name (peek i.1)) (both identifier inside) body (f at) j) i
     ∙ two word tail f i
+
+-- ---- a struct, by its tag, its members or both
+
+abbrev StructBody : Type 0
+StructBody = ((Pos × Member) × List Member) × Pos
+
+abbrev struct_by : Pos → (Identifier × (StructBody ⊎ Unit {0})) ⊎ StructBody → Specifier
+struct_by at (inl (tag, inl b)) = specifier.Struct at (Some tag) b.0.0.0 (b.0.0.1 ∷ b.0.1) b.1
+struct_by at (inl (tag, inr u)) = specifier.StructTag at tag
+struct_by at (inr b) = specifier.Struct at None b.0.0.0 (b.0.0.1 ∷ b.0.1) b.1
+
+abbrev StructTail : Type 0
+StructTail = (Identifier × (StructBody ⊎ Unit {0})) ⊎ StructBody
+
+abbrev struct_form : Form (Pos × StructTail)
+struct_form = tagged_form word.Struct struct_body_form
+
+abbrev struct_of : Pos × StructTail → Specifier
+struct_of t = struct_by t.0 t.1
+
+members_told : (names : Names) (xs : List Member) → all_good member_items tt names xs → all_true (in_row (map member_level xs) names).0 ≡ true
+members_told names [] g = refl
+members_told names (x ∷ xs) g = both_are _ _ g.0 (members_told (names ++ (member_level x names).1) xs g.1)
+
+members_are : (names : Names) (xs : List Member) → all_true (in_row (map member_level xs) names).0 ≡ true → all_good member_items tt names xs
+members_are names [] h = tt
+members_are names (x ∷ xs) h = let b = both_true (member_level x names).0 _ h in (b.0, members_are (names ++ (member_level x names).1) xs b.1)
+
+struct_told : (w typed : Bool) (names : Names) (at : Pos) (tag : Option Identifier) (b : StructBody) → struct_body_form.good names b → (one_form w typed).good names (specifier.Struct at tag b.0.0.0 (b.0.0.1 ∷ b.0.1) b.1)
+struct_told w typed names at tag b g =
+    (ap (λ f. kind_good typed (f names).0) (specifier_level-Struct at tag b.0.0.0 (b.0.0.1 ∷ b.0.1) b.1) ∙ both_are _ _ g.0.0.1 (members_told (names ++ (member_level b.0.0.1 names).1) b.0.1 g.0.1),
+      ap (λ f. w || not (is_storing (f names).0)) (specifier_level-Struct at tag b.0.0.0 (b.0.0.1 ∷ b.0.1) b.1) ∙ or_true w)
+
+told_struct : (w typed : Bool) (names : Names) (at : Pos) (tag : Option Identifier) (b : StructBody) → (one_form w typed).good names (specifier.Struct at tag b.0.0.0 (b.0.0.1 ∷ b.0.1) b.1) → struct_body_form.good names b
+told_struct w typed names at tag b g =
+    let c = both_true (member_level b.0.0.1 names).0 _ (sym (ap (λ f. kind_good typed (f names).0) (specifier_level-Struct at tag b.0.0.0 (b.0.0.1 ∷ b.0.1) b.1)) ∙ g.0) in
+    (((tt, c.0), members_are (names ++ (member_level b.0.0.1 names).1) b.0.1 c.1), tt)
+
+struct_good : (w typed : Bool) (names : Names) (at : Pos) (u : StructTail) → struct_form.good names (at, u) → (one_form w typed).good names (struct_by at u)
+struct_good w typed names at (inl (tag, inl b)) g = struct_told w typed names at (Some tag) b g.1.1
+struct_good w typed names at (inl (tag, inr u)) g =
+    (ap (λ f. kind_good typed (f names).0) (specifier_level-StructTag at tag), ap (λ f. w || not (is_storing (f names).0)) (specifier_level-StructTag at tag) ∙ or_true w)
+struct_good w typed names at (inr b) g = struct_told w typed names at None b g.1
+
+struct_parts : (w typed : Bool) (names : Names) (at : Pos) (u : StructTail) → (one_form w typed).good names (struct_by at u) → struct_form.good names (at, u)
+struct_parts w typed names at (inl (tag, inl b)) g = (tt, (tt, told_struct w typed names at (Some tag) b g))
+struct_parts w typed names at (inl (tag, inr u)) g = (tt, (tt, tt))
+struct_parts w typed names at (inr b) g = (tt, told_struct w typed names at None b g)
+
+struct_deep : (at : Pos) (tag : Option Identifier) (b : StructBody) → specifier_nesting (specifier.Struct at tag b.0.0.0 (b.0.0.1 ∷ b.0.1) b.1) ≡ struct_body_form.nest b
+struct_deep at tag b =
+    specifier_nesting-Struct at tag b.0.0.0 (b.0.0.1 ∷ b.0.1) b.1 ∙ (let e = deep_list member_nesting (member_nesting b.0.0.1) b.0.1 in omega arith)
+
+struct_nested : (at : Pos) (u : StructTail) → specifier_nesting (struct_by at u) ≡ struct_form.nest (at, u)
+struct_nested at (inl (tag, inl b)) = struct_deep at (Some tag) b ∙ omega arith
+struct_nested at (inl (tag, inr u)) = specifier_nesting-StructTag at tag ∙ omega arith
+struct_nested at (inr b) = struct_deep at None b ∙ omega arith
+
+struct_spelt : (at : Pos) (u : StructTail) → specifier_spelling (struct_by at u) ≡ struct_form.spell (at, u)
+struct_spelt at (inl (tag, inl b)) = specifier_spelling-Struct at (Some tag) b.0.0.0 (b.0.0.1 ∷ b.0.1) b.1
+struct_spelt at (inl (tag, inr u)) = specifier_spelling-StructTag at tag
+struct_spelt at (inr b) = specifier_spelling-Struct at None b.0.0.0 (b.0.0.1 ∷ b.0.1) b.1
+
+struct_added : (names : Names) (at : Pos) (tag : Option Identifier) (b : StructBody) → (specifier_level (specifier.Struct at tag b.0.0.0 (b.0.0.1 ∷ b.0.1) b.1) names).1 ≡ struct_body_form.adds names b
+struct_added names at tag b =
+    ap (λ f. (f names).1) (specifier_level-Struct at tag b.0.0.0 (b.0.0.1 ∷ b.0.1) b.1)
+    ∙ ap (λ l. (member_level b.0.0.1 names).1 ++ l) (sym (added_in_row member_items member_level (λ names x. refl) (names ++ (member_level b.0.0.1 names).1) b.0.1))
+
+struct_seen : (names : Names) (at : Pos) (u : StructTail) → (specifier_level (struct_by at u) names).1 ≡ struct_form.adds names (at, u)
+struct_seen names at (inl (tag, inl b)) = struct_added names at (Some tag) b
+struct_seen names at (inl (tag, inr u)) = ap (λ f. (f names).1) (specifier_level-StructTag at tag)
+struct_seen names at (inr b) = struct_added names at None b
+
+struct_no_tag : (at : Pos) (tag : Option Identifier) (from : Pos) (members : List Member) (to : Pos) (b : Bool) → (is_tag (specifier.Struct at tag from members to) && b) ≡ false
+unfolding is_tag out-Specifier out
+struct_no_tag at tag from members to b = refl
+
+struct_tag_is : (at : Pos) (tag : Identifier) (b : Bool) → (is_tag (specifier.StructTag at tag) && b) ≡ b
+unfolding is_tag out-Specifier out
+struct_tag_is at tag b = refl
+
+struct_stop : (at : Pos) (u : StructTail) (behind : Names) (rest : Tokens) → struct_form.stop (at, u) behind rest → (is_tag (struct_by at u) && is_mark p.LeftBrace (peek rest)) ≡ false
+struct_stop at (inl (tag, inl b)) behind rest h = struct_no_tag at (Some tag) b.0.0.0 (b.0.0.1 ∷ b.0.1) b.1 _
+struct_stop at (inl (tag, inr u)) behind rest h = struct_tag_is at tag _ ∙ h
+struct_stop at (inr b) behind rest h = struct_no_tag at None b.0.0.0 (b.0.0.1 ∷ b.0.1) b.1 _
+
+struct_from : (at : Pos) (u : StructTail) (behind : Names) (rest : Tokens) → (is_tag (struct_by at u) && is_mark p.LeftBrace (peek rest)) ≡ false → struct_form.stop (at, u) behind rest
+struct_from at (inl (tag, inl b)) behind rest h = tt
+struct_from at (inl (tag, inr u)) behind rest h = sym (struct_tag_is at tag _) ∙ h
+struct_from at (inr b) behind rest h = tt
+
+struct_node : (w typed : Bool) → Node struct_form struct_of (one_form w typed)
+struct_node w typed = record {
+    good = λ names t g. struct_good w typed names t.0 t.1 g;
+    parts = λ names t g. struct_parts w typed names t.0 t.1 g;
+    nested = λ t. struct_nested t.0 t.1;
+    spelt = λ t. struct_spelt t.0 t.1;
+    seen = λ names t. struct_seen names t.0 t.1;
+    stop = λ names t behind rest g h. struct_stop t.0 t.1 behind rest h;
+    from_stop = λ names t behind rest g h. struct_from t.0 t.1 behind rest h;
+  }
+
+-- what is asked of what stands in brackets
+abbrev Specs : ℕ → Inner → Type 0
+Specs more inner = (w : Bool) → Exact (deeper (specifiers_form w)) more (inner.specifiers w)
+
+abbrev Decls : ℕ → Inner → Type 0
+Decls more inner = (purpose : Use) (typed : Bool) → Exact (deeper (declarator_form purpose typed)) more (inner.declarator purpose typed)
+
+abbrev members_reader : ℕ → Inner → Parser StructBody
+members_reader more inner = both (both (both (opening more p.LeftBrace) (λ from. member more inner)) (λ t. many (goes_member more inner) (member more inner))) (λ t. expect p.RightBrace)
+
+body_is : (more : ℕ) (inner : Inner) (at : Pos) (tag : Option Identifier) (i : State) → struct_body more inner at tag i ≡ map_to (members_reader more inner) (λ b. specifier.Struct at tag b.0.0.0 (b.0.0.1 ∷ b.0.1) b.1) i
+unfolding struct_body
+body_is more inner at tag i =
+    four (opening more p.LeftBrace) (λ from. member more inner) (λ from first. many (goes_member more inner) (member more inner)) (λ from first rest. expect p.RightBrace) (λ from first rest to. specifier.Struct at tag from (first ∷ rest) to) i
+
+struct_reads : (more : ℕ) (inner : Inner) (i : State) → struct_specifier more inner i ≡ map_to (tagged_reader (one struct_at) (members_reader more inner)) struct_of i
+unfolding struct_specifier
+struct_reads more inner i =
+    bind_same (one struct_at) _ (λ at. choose (λ i. is_name (peek i.1)) (identifier >>= (λ tag. choose (sees p.LeftBrace) (map_to (members_reader more inner) (λ b. struct_by at (inl (tag, inl b)))) (pure (struct_by at (inl (tag, inr tt)))))) (map_to (members_reader more inner) (λ b. struct_by at (inr b))))
+      (λ at j. choose_same (λ i. is_name (peek i.1)) (struct_tagged more inner at) (struct_body more inner at None) _ _
+        (λ j. bind_same identifier _ _ (λ tag j. choose_same (sees p.LeftBrace) (struct_body more inner at (Some tag)) (pure (specifier.StructTag at tag)) _ _ (body_is more inner at (Some tag)) (λ j. refl) j) j)
+        (body_is more inner at None) j) i
+    ∙ tagged_is (one struct_at) (members_reader more inner) struct_by i
+
+struct_opens : (names : Names) (b : StructBody) (rest : Tokens) → (from : Pos) × (ts : Tokens) × (struct_body_form.spell b ++ rest ≡ punct p.LeftBrace from ∷ ts)
+struct_opens names b rest = (b.0.0.0, _, refl)
+
+struct_exact : (w typed : Bool) (more : ℕ) (inner : Inner) → Specs more inner → Decls more inner → Exact (only (Image struct_of) (one_form w typed)) more (struct_specifier more inner)
+struct_exact w typed more inner specs decls =
+    same_exact (only (Image struct_of) (one_form w typed)) more _ (struct_specifier more inner) (struct_reads more inner)
+    (node_exact struct_form struct_of (one_form w typed) more _
+      (tagged_exact word.Struct struct_at struct_body_form more (members_reader more inner) (one_exact (keyword word.Struct) always struct_at struct_picks (λ names a g. refl) more) (struct_body_exact more inner specs decls) struct_opens) (struct_node w typed))
+
+-- ---- an enum, by its tag, its enumerators or both
+
+abbrev EnumBody : Type 0
+EnumBody = ((Pos × Enumerator) × List Enumerator) × (Option Pos × Pos)
+
+abbrev EnumTail : Type 0
+EnumTail = (Identifier × (EnumBody ⊎ Unit {0})) ⊎ EnumBody
+
+abbrev braces_of : Pos → Option Identifier → EnumBody → Specifier
+braces_of at tag b = specifier.Enum at tag b.0.0.0 (b.0.0.1 ∷ b.0.1) b.1.0 b.1.1
+
+abbrev enum_by : Pos → EnumTail → Specifier
+enum_by at (inl (tag, inl b)) = braces_of at (Some tag) b
+enum_by at (inl (tag, inr u)) = specifier.EnumTag at tag
+enum_by at (inr b) = braces_of at None b
+
+abbrev enum_form : Form (Pos × EnumTail)
+enum_form = tagged_form word.Enum enum_body_form
+
+abbrev enum_of : Pos × EnumTail → Specifier
+enum_of t = enum_by t.0 t.1
+
+rest_told : (names : Names) (xs : List Enumerator) → all_good enumerator_items tt names xs → rest_listed (in_row (map enumerator_level xs) names).0 ≡ true
+rest_told names [] g = refl
+rest_told names (x ∷ xs) g = both_are _ _ (comma_told x names ∙ g.0.0) (both_are _ _ g.0.1 (rest_told (names ++ (enumerator_level x names).1) xs g.1))
+
+rest_are : (names : Names) (xs : List Enumerator) → rest_listed (in_row (map enumerator_level xs) names).0 ≡ true → all_good enumerator_items tt names xs
+rest_are names [] h = tt
+rest_are names (x ∷ xs) h =
+    let b = both_true (enumerator_level x names).0.comma _ h in
+    let c = both_true (enumerator_level x names).0.good _ b.1 in
+    ((sym (comma_told x names) ∙ b.0, c.0), rest_are (names ++ (enumerator_level x names).1) xs c.1)
+
+no_first_comma : (c : Option Pos) → not (is_some c) ≡ true → c ≡ None
+no_first_comma None h = refl
+no_first_comma (Some at) h = absurd cc
+
+enum_told : (w typed : Bool) (names : Names) (at : Pos) (tag : Option Identifier) (b : EnumBody) → enum_body_form.good names b → (one_form w typed).good names (braces_of at tag b)
+enum_told w typed names at tag b g =
+    let x : Enumerator = b.0.0.1 in
+    (ap (λ f. kind_good typed (f names).0) (specifier_level-Enum at tag b.0.0.0 (x ∷ b.0.1) b.1.0 b.1.1)
+      ∙ both_are _ _ (ap not (comma_told x names) ∙ ap (λ c. not (is_some c)) g.0.0.1.0) (both_are _ _ g.0.0.1.1 (rest_told (names ++ (enumerator_level x names).1) b.0.1 g.0.1)),
+      ap (λ f. w || not (is_storing (f names).0)) (specifier_level-Enum at tag b.0.0.0 (x ∷ b.0.1) b.1.0 b.1.1) ∙ or_true w)
+
+told_enum : (w typed : Bool) (names : Names) (at : Pos) (tag : Option Identifier) (b : EnumBody) → (one_form w typed).good names (braces_of at tag b) → enum_body_form.good names b
+told_enum w typed names at tag b g =
+    let x : Enumerator = b.0.0.1 in
+    let c = both_true (not (enumerator_level x names).0.comma) _ (sym (ap (λ f. kind_good typed (f names).0) (specifier_level-Enum at tag b.0.0.0 (x ∷ b.0.1) b.1.0 b.1.1)) ∙ g.0) in
+    let d = both_true (enumerator_level x names).0.good _ c.1 in
+    (((tt, (no_first_comma (layer_comma (out-Enumerator x)) (sym (ap not (comma_told x names)) ∙ c.0), d.0)), rest_are (names ++ (enumerator_level x names).1) b.0.1 d.1), (tt, tt))
+
+enum_good : (w typed : Bool) (names : Names) (at : Pos) (u : EnumTail) → enum_form.good names (at, u) → (one_form w typed).good names (enum_by at u)
+enum_good w typed names at (inl (tag, inl b)) g = enum_told w typed names at (Some tag) b g.1.1
+enum_good w typed names at (inl (tag, inr u)) g =
+    (ap (λ f. kind_good typed (f names).0) (specifier_level-EnumTag at tag), ap (λ f. w || not (is_storing (f names).0)) (specifier_level-EnumTag at tag) ∙ or_true w)
+enum_good w typed names at (inr b) g = enum_told w typed names at None b g.1
+
+enum_parts : (w typed : Bool) (names : Names) (at : Pos) (u : EnumTail) → (one_form w typed).good names (enum_by at u) → enum_form.good names (at, u)
+enum_parts w typed names at (inl (tag, inl b)) g = (tt, (tt, told_enum w typed names at (Some tag) b g))
+enum_parts w typed names at (inl (tag, inr u)) g = (tt, (tt, tt))
+enum_parts w typed names at (inr b) g = (tt, told_enum w typed names at None b g)
+
+enum_deep : (at : Pos) (tag : Option Identifier) (b : EnumBody) → specifier_nesting (braces_of at tag b) ≡ enum_body_form.nest b
+enum_deep at tag b =
+    let x : Enumerator = b.0.0.1 in
+    specifier_nesting-Enum at tag b.0.0.0 (x ∷ b.0.1) b.1.0 b.1.1
+    ∙ (let e = enumerator_deep (layer_nest (out-Enumerator x)) b.0.1 in let d = enumerator_deep 0 (x ∷ []) in omega arith)
+
+enum_nested : (at : Pos) (u : EnumTail) → specifier_nesting (enum_by at u) ≡ enum_form.nest (at, u)
+enum_nested at (inl (tag, inl b)) = enum_deep at (Some tag) b ∙ omega arith
+enum_nested at (inl (tag, inr u)) = specifier_nesting-EnumTag at tag ∙ omega arith
+enum_nested at (inr b) = enum_deep at None b ∙ omega arith
+
+enum_flat : (from : Pos) (es : Tokens) (last : Tokens) (to : Pos) → punct p.LeftBrace from ∷ ((es ++ last) ++ punct p.RightBrace to ∷ []) ≡ (punct p.LeftBrace from ∷ es) ++ (last ++ punct p.RightBrace to ∷ [])
+enum_flat from es last to = ap (λ l. punct p.LeftBrace from ∷ l) (append_assoc es last (punct p.RightBrace to ∷ []))
+
+enum_spelt : (at : Pos) (u : EnumTail) → specifier_spelling (enum_by at u) ≡ enum_form.spell (at, u)
+enum_spelt at (inl (tag, inl b)) =
+    specifier_spelling-Enum at (Some tag) b.0.0.0 (b.0.0.1 ∷ b.0.1) b.1.0 b.1.1
+    ∙ ap (λ l. keyword word.Enum at ∷ (name_token tag ∷ l)) (enum_flat b.0.0.0 (enumerator_spelling b.0.0.1 ++ joined (map enumerator_spelling b.0.1)) (comma_at b.1.0) b.1.1)
+enum_spelt at (inl (tag, inr u)) = specifier_spelling-EnumTag at tag
+enum_spelt at (inr b) =
+    specifier_spelling-Enum at None b.0.0.0 (b.0.0.1 ∷ b.0.1) b.1.0 b.1.1
+    ∙ ap (λ l. keyword word.Enum at ∷ l) (enum_flat b.0.0.0 (enumerator_spelling b.0.0.1 ++ joined (map enumerator_spelling b.0.1)) (comma_at b.1.0) b.1.1)
+
+enum_added : (names : Names) (at : Pos) (tag : Option Identifier) (b : EnumBody) → (specifier_level (braces_of at tag b) names).1 ≡ enum_body_form.adds names b
+enum_added names at tag b =
+    ap (λ f. (f names).1) (specifier_level-Enum at tag b.0.0.0 (b.0.0.1 ∷ b.0.1) b.1.0 b.1.1)
+    ∙ ap (λ l. (enumerator_level b.0.0.1 names).1 ++ l) (sym (added_in_row enumerator_items enumerator_level (λ names x. refl) (names ++ (enumerator_level b.0.0.1 names).1) b.0.1))
+
+enum_seen : (names : Names) (at : Pos) (u : EnumTail) → (specifier_level (enum_by at u) names).1 ≡ enum_form.adds names (at, u)
+enum_seen names at (inl (tag, inl b)) = enum_added names at (Some tag) b
+enum_seen names at (inl (tag, inr u)) = ap (λ f. (f names).1) (specifier_level-EnumTag at tag)
+enum_seen names at (inr b) = enum_added names at None b
+
+enum_no_tag : (at : Pos) (tag : Option Identifier) (b : EnumBody) (c : Bool) → (is_tag (braces_of at tag b) && c) ≡ false
+unfolding is_tag out-Specifier out
+enum_no_tag at tag b c = refl
+
+enum_tag_is : (at : Pos) (tag : Identifier) (b : Bool) → (is_tag (specifier.EnumTag at tag) && b) ≡ b
+unfolding is_tag out-Specifier out
+enum_tag_is at tag b = refl
+
+enum_stop : (at : Pos) (u : EnumTail) (behind : Names) (rest : Tokens) → enum_form.stop (at, u) behind rest → (is_tag (enum_by at u) && is_mark p.LeftBrace (peek rest)) ≡ false
+enum_stop at (inl (tag, inl b)) behind rest h = enum_no_tag at (Some tag) b _
+enum_stop at (inl (tag, inr u)) behind rest h = enum_tag_is at tag _ ∙ h
+enum_stop at (inr b) behind rest h = enum_no_tag at None b _
+
+enum_from : (at : Pos) (u : EnumTail) (behind : Names) (rest : Tokens) → (is_tag (enum_by at u) && is_mark p.LeftBrace (peek rest)) ≡ false → enum_form.stop (at, u) behind rest
+enum_from at (inl (tag, inl b)) behind rest h = tt
+enum_from at (inl (tag, inr u)) behind rest h = sym (enum_tag_is at tag _) ∙ h
+enum_from at (inr b) behind rest h = tt
+
+enum_node : (w typed : Bool) → Node enum_form enum_of (one_form w typed)
+enum_node w typed = record {
+    good = λ names t g. enum_good w typed names t.0 t.1 g;
+    parts = λ names t g. enum_parts w typed names t.0 t.1 g;
+    nested = λ t. enum_nested t.0 t.1;
+    spelt = λ t. enum_spelt t.0 t.1;
+    seen = λ names t. enum_seen names t.0 t.1;
+    stop = λ names t behind rest g h. enum_stop t.0 t.1 behind rest h;
+    from_stop = λ names t behind rest g h. enum_from t.0 t.1 behind rest h;
+  }
+
+abbrev enumerators_reader : ℕ → Inner → Parser EnumBody
+enumerators_reader more inner = both (both (both (opening more p.LeftBrace) (λ from. one_enumerator more inner None)) (λ t. many goes_enumerator (next_enumerator more inner))) (λ t. both optional_comma (λ c. expect p.RightBrace))
+
+braces_are : (more : ℕ) (inner : Inner) (at : Pos) (tag : Option Identifier) (i : State) → enum_body more inner at tag i ≡ map_to (enumerators_reader more inner) (braces_of at tag) i
+unfolding enum_body
+braces_are more inner at tag i =
+    five_pair (opening more p.LeftBrace) (λ from. one_enumerator more inner None) (λ from first. many goes_enumerator (next_enumerator more inner)) optional_comma (expect p.RightBrace)
+      (λ from first rest last to. specifier.Enum at tag from (first ∷ rest) last to) i
+
+enum_reads : (more : ℕ) (inner : Inner) (i : State) → enum_specifier more inner i ≡ map_to (tagged_reader (one enum_at) (enumerators_reader more inner)) enum_of i
+unfolding enum_specifier
+enum_reads more inner i =
+    bind_same (one enum_at) _ (λ at. choose (λ i. is_name (peek i.1)) (identifier >>= (λ tag. choose (sees p.LeftBrace) (map_to (enumerators_reader more inner) (λ b. enum_by at (inl (tag, inl b)))) (pure (enum_by at (inl (tag, inr tt)))))) (map_to (enumerators_reader more inner) (λ b. enum_by at (inr b))))
+      (λ at j. choose_same (λ i. is_name (peek i.1)) (enum_tagged more inner at) (enum_body more inner at None) _ _
+        (λ j. bind_same identifier _ _ (λ tag j. choose_same (sees p.LeftBrace) (enum_body more inner at (Some tag)) (pure (specifier.EnumTag at tag)) _ _ (braces_are more inner at (Some tag)) (λ j. refl) j) j)
+        (braces_are more inner at None) j) i
+    ∙ tagged_is (one enum_at) (enumerators_reader more inner) enum_by i
+
+enum_opens : (names : Names) (b : EnumBody) (rest : Tokens) → (from : Pos) × (ts : Tokens) × (enum_body_form.spell b ++ rest ≡ punct p.LeftBrace from ∷ ts)
+enum_opens names b rest = (b.0.0.0, _, refl)
+
+enum_exact : (w typed : Bool) (more : ℕ) (inner : Inner) → Exact (deeper (expr_form conditional)) more (inner.expr conditional) → Exact (only (Image enum_of) (one_form w typed)) more (enum_specifier more inner)
+enum_exact w typed more inner exact =
+    same_exact (only (Image enum_of) (one_form w typed)) more _ (enum_specifier more inner) (enum_reads more inner)
+    (node_exact enum_form enum_of (one_form w typed) more _
+      (tagged_exact word.Enum enum_at enum_body_form more (enumerators_reader more inner) (one_exact (keyword word.Enum) always enum_at enum_picks (λ names a g. refl) more) (enum_body_exact more inner exact) enum_opens) (enum_node w typed))
+
+-- ---- which specifier comes next
+
+first_key : (ts : Tokens) (t : Token) (os rest : Tokens) (test : Option TokenKind → Bool) (b : Bool) → ts ≡ t ∷ os → test (Some t.kind) ≡ b → test (peek (ts ++ rest)) ≡ b
+first_key ts t os rest test b e h = ap (λ l. test (peek (l ++ rest))) e ∙ ap test (peek_first t (os ++ rest)) ∙ h
+
+struct_shown : (x : Specifier) (rest : Tokens) → Image struct_of x → is_struct (peek (specifier_spelling x ++ rest)) ≡ true
+struct_shown x rest i = subst (λ x. is_struct (peek (specifier_spelling x ++ rest)) ≡ true) i.1 (first_key _ (keyword word.Struct i.0.0) _ rest is_struct true (struct_spelt i.0.0 i.0.1) refl)
+
+enum_shown : (x : Specifier) (rest : Tokens) → Image enum_of x → is_enum (peek (specifier_spelling x ++ rest)) ≡ true
+enum_shown x rest i = subst (λ x. is_enum (peek (specifier_spelling x ++ rest)) ≡ true) i.1 (first_key _ (keyword word.Enum i.0.0) _ rest is_enum true (enum_spelt i.0.0 i.0.1) refl)
+
+enum_no_struct : (x : Specifier) (rest : Tokens) → Image enum_of x → is_struct (peek (specifier_spelling x ++ rest)) ≡ false
+enum_no_struct x rest i = subst (λ x. is_struct (peek (specifier_spelling x ++ rest)) ≡ false) i.1 (first_key _ (keyword word.Enum i.0.0) _ rest is_struct false (enum_spelt i.0.0 i.0.1) refl)
+
+storage_key : (test : Option TokenKind → Bool) → ((st : Storage) → test (Some (k.Keyword (storage_word st))) ≡ false) → (t : Storage × Pos) (rest : Tokens) → test (peek (specifier_spelling (specifier.Storage t.0 t.1) ++ rest)) ≡ false
+storage_key test h t rest = first_key _ (keyword (storage_word t.0) t.1) [] rest test false (specifier_spelling-Storage t.0 t.1) (h t.0)
+
+plain_key : (test : Option TokenKind → Bool) → ((st : Storage) → test (Some (k.Keyword (storage_word st))) ≡ false) → ((t : TypeWord) → test (Some (k.Keyword (type_word t))) ≡ false) → test (Some (k.Keyword word.Const)) ≡ false
+    → ((text : List ℕ) → test (Some (k.Name text)) ≡ false) → (x : Specifier) (rest : Tokens) → IsPlain x → test (peek (specifier_spelling x ++ rest)) ≡ false
+plain_key test a b c d x rest (inl i) = subst (λ x. test (peek (specifier_spelling x ++ rest)) ≡ false) i.1 (storage_key test a i.0 rest)
+plain_key test a b c d x rest (inr (inl i)) = subst (λ x. test (peek (specifier_spelling x ++ rest)) ≡ false) i.1 (first_key _ (keyword word.Const i.0) [] rest test false (specifier_spelling-Const i.0) c)
+plain_key test a b c d x rest (inr (inr (inl i))) = subst (λ x. test (peek (specifier_spelling x ++ rest)) ≡ false) i.1 (first_key _ (keyword (type_word i.0.0) i.0.1) [] rest test false (specifier_spelling-Word i.0.0 i.0.1) (b i.0.0))
+plain_key test a b c d x rest (inr (inr (inr i))) = subst (λ x. test (peek (specifier_spelling x ++ rest)) ≡ false) i.1 (first_key _ (name_token i.0) [] rest test false (specifier_spelling-TypedefName i.0) (d i.0.text))
+
+storage_no_struct : (st : Storage) → is_struct (Some (k.Keyword (storage_word st))) ≡ false
+storage_no_struct storage.Typedef = refl
+storage_no_struct _ = refl
+
+word_no_struct : (t : TypeWord) → is_struct (Some (k.Keyword (type_word t))) ≡ false
+word_no_struct type.Void = refl
+word_no_struct _ = refl
+
+storage_no_enum : (st : Storage) → is_enum (Some (k.Keyword (storage_word st))) ≡ false
+storage_no_enum storage.Typedef = refl
+storage_no_enum _ = refl
+
+word_no_enum : (t : TypeWord) → is_enum (Some (k.Keyword (type_word t))) ≡ false
+word_no_enum type.Void = refl
+word_no_enum _ = refl
+
+no_struct_by : (x : Specifier) (rest : Tokens) → Image enum_of x ⊎ IsPlain x → is_struct (peek (specifier_spelling x ++ rest)) ≡ false
+no_struct_by x rest (inl i) = enum_no_struct x rest i
+no_struct_by x rest (inr i) = plain_key is_struct storage_no_struct word_no_struct refl (λ text. refl) x rest i
+
+no_members : (w typed : Bool) (names : Names) (at : Pos) (tag : Option Identifier) (from to : Pos) → (one_form w typed).good names (specifier.Struct at tag from [] to) → ⊥
+no_members w typed names at tag from to g = let e : false ≡ true = sym (ap (λ f. kind_good typed (f names).0) (specifier_level-Struct at tag from [] to)) ∙ g.0 in absurd cc
+
+no_enumerators : (w typed : Bool) (names : Names) (at : Pos) (tag : Option Identifier) (from : Pos) (last : Option Pos) (to : Pos) → (one_form w typed).good names (specifier.Enum at tag from [] last to) → ⊥
+no_enumerators w typed names at tag from last to g = let e : false ≡ true = sym (ap (λ f. kind_good typed (f names).0) (specifier_level-Enum at tag from [] last to)) ∙ g.0 in absurd cc
+
+specifier_is : {x : Specifier} → SpecifierShape x → (w typed : Bool) (names : Names) → (one_form w typed).good names x → Image struct_of x ⊎ (Image enum_of x ⊎ IsPlain x)
+specifier_is (SpecifierShape.a_storage st at) w typed names g = inr (inr (inl ((st, at), refl)))
+specifier_is (SpecifierShape.a_const at) w typed names g = inr (inr (inr (inl (at, refl))))
+specifier_is (SpecifierShape.a_word t at) w typed names g = inr (inr (inr (inr (inl ((t, at), refl)))))
+specifier_is (SpecifierShape.a_typedef_name id) w typed names g = inr (inr (inr (inr (inr (id, refl)))))
+specifier_is (SpecifierShape.a_struct_tag at tag) w typed names g = inl ((at, inl (tag, inr tt)), refl)
+specifier_is (SpecifierShape.a_enum_tag at tag) w typed names g = inr (inl ((at, inl (tag, inr tt)), refl))
+specifier_is (SpecifierShape.a_struct at tag from [] to) w typed names g = absurd (no_members w typed names at tag from to g)
+specifier_is (SpecifierShape.a_struct at (Some tag) from (x ∷ xs) to) w typed names g = inl ((at, inl (tag, inl (((from, x), xs), to))), refl)
+specifier_is (SpecifierShape.a_struct at None from (x ∷ xs) to) w typed names g = inl ((at, inr (((from, x), xs), to)), refl)
+specifier_is (SpecifierShape.a_enum at tag from [] last to) w typed names g = absurd (no_enumerators w typed names at tag from last to g)
+specifier_is (SpecifierShape.a_enum at (Some tag) from (x ∷ xs) last to) w typed names g = inr (inl ((at, inl (tag, inl (((from, x), xs), (last, to)))), refl))
+specifier_is (SpecifierShape.a_enum at None from (x ∷ xs) last to) w typed names g = inr (inl ((at, inr (((from, x), xs), (last, to))), refl))
+
+one_specifier_exact : (w typed : Bool) (more : ℕ) (inner : Inner) → Specs more inner → Decls more inner → Exact (deeper (expr_form conditional)) more (inner.expr conditional) → Exact (one_form w typed) more (one_specifier more inner w typed)
+unfolding one_specifier
+one_specifier_exact w typed more inner specs decls exact =
+    whole_exact (λ x. Image struct_of x ⊎ (Image enum_of x ⊎ IsPlain x)) (one_form w typed) more _ (λ names x g. specifier_is (specifier_shape x) w typed names g)
+    (choose_exact (Image struct_of) (λ x. Image enum_of x ⊎ IsPlain x) (one_form w typed) more (λ i. is_struct (peek i.1)) (struct_specifier more inner) _ (struct_exact w typed more inner specs decls)
+      (choose_exact (Image enum_of) IsPlain (one_form w typed) more (λ i. is_enum (peek i.1)) (enum_specifier more inner) (one (plain_at w typed)) (enum_exact w typed more inner exact) (plain_exact w typed more)
+        (λ names x rest i g s. enum_shown x rest i)
+        (λ names x rest i g s. plain_key is_enum storage_no_enum word_no_enum refl (λ text. refl) x rest i))
+      (λ names x rest i g s. struct_shown x rest i)
+      (λ names x rest i g s. no_struct_by x rest i))
+
+-- ---- specifiers in a row
+
+specifier_no_brace : (w typed : Bool) (names : Names) (kind : TokenKind) → begins_specifier w typed names (Some kind) ≡ true → is_mark p.LeftBrace (Some kind) ≡ false
+specifier_no_brace w typed names (k.Keyword key) h = refl
+specifier_no_brace w typed names (k.Name text) h = refl
+specifier_no_brace w typed names (k.Punct op) h = absurd cc
+specifier_no_brace w typed names (k.Number value kind) h = absurd cc
+specifier_no_brace w typed names (k.Char value) h = absurd cc
+specifier_no_brace w typed names (k.Bytes bytes) h = absurd cc
+
+and_no : (b : Bool) → (b && false) ≡ false
+and_no true = refl
+and_no false = refl
+
+specifier_then : (w typed : Bool) (names : Names) (x y : Specifier) (rest : Tokens) → (specifier_items w).good typed names y → (is_tag x && is_mark p.LeftBrace (peek (specifier_spelling y ++ rest))) ≡ false
+specifier_then w typed names x y rest g =
+    let s = specifier_starts w typed names y g in
+    ap (λ b. is_tag x && b) (first_key _ s.first s.others rest (is_mark p.LeftBrace) false s.spelt (specifier_no_brace w typed names s.first.kind s.good)) ∙ and_no (is_tag x)
+
+no_specifier : (w typed : Bool) (names : Names) → begins_specifier w typed names (peek []) ≡ false
+unfolding peek
+no_specifier w typed names = refl
+
+specifiers_kept : (w : Bool) (more : ℕ) (inner : Inner) → Specs more inner → Decls more inner → Exact (deeper (expr_form conditional)) more (inner.expr conditional) → Kept (specifier_items w) more (λ typed. one_specifier more inner w typed)
+specifiers_kept w more inner specs decls exact = record {
+    sound = λ s names ts x end go h. (one_specifier_exact w s more inner specs decls exact).sound names ts x end h;
+    complete = λ s names x rest g n st. (one_specifier_exact w s more inner specs decls exact).complete names x rest g n st;
+    starts = λ s names x rest g st. starts_seen w s names (specifier_spelling x) rest (specifier_starts w s names x g);
+    ends = λ s names. no_specifier w s names;
+    follows = λ s names x y rest g h st. specifier_then w (s || is_type x) _ x y rest h;
+    some = λ s names x g. subst (λ l. 0 < length l) (sym (specifier_starts w s names x g).spelt) (omega arith);
+  }
+
+abbrev row_form : Bool → Form (Specifier × List Specifier)
+row_form w = chain (one_form w false) (specifier_items w) (λ x. is_type x)
+
+row_stop : (w : Bool) (x : Specifier) (xs : List Specifier) (names : Names) (rest : Tokens) → (row_form w).stop (x, xs) names rest → all_stop (specifier_items w) false (x ∷ xs) names rest
+row_stop w x [] names rest h = h
+row_stop w x (y ∷ ys) names rest h = (tt, h)
+
+stop_row : (w : Bool) (x : Specifier) (xs : List Specifier) (names : Names) (rest : Tokens) → all_stop (specifier_items w) false (x ∷ xs) names rest → (row_form w).stop (x, xs) names rest
+stop_row w x [] names rest h = h
+stop_row w x (y ∷ ys) names rest h = h.1
+
+row_split : (w : Bool) (names : Names) (xs : List Specifier) → (specifiers_form w).good names xs → Split (row_form w) (λ t. t.0 ∷ t.1) (specifiers_form w) names xs
+row_split w names [] g = absurd (g.0 refl)
+row_split w names (x ∷ xs) g = record { tuple = (x, xs); whole = refl; good = g.1 }
+
+not_empty : {A : Type 0} (x : A) (xs : List A) → ◌≡◌ {A = List A} (x ∷ xs) [] → ⊥
+not_empty x xs h = absurd cc
+
+row_joint : (w : Bool) → Joint (row_form w) (λ t. t.0 ∷ t.1) (specifiers_form w)
+row_joint w = record {
+    good = λ names t g. (not_empty t.0 t.1, g);
+    split = row_split w;
+    nested = λ t. refl;
+    spelt = λ t. refl;
+    seen = λ names t. sym (added_in_row (specifier_items w) specifier_level (λ names x. refl) names (t.0 ∷ t.1));
+    stop = λ names t behind rest g h. row_stop w t.0 t.1 behind rest h;
+    from_stop = λ names t behind rest g h. stop_row w t.0 t.1 behind rest h;
+  }
+
+pub specifiers_exact : (w : Bool) (more : ℕ) (inner : Inner) → Specs more inner → Decls more inner → Exact (deeper (expr_form conditional)) more (inner.expr conditional) → Exact (specifiers_form w) more (specifiers more inner w)
+unfolding specifiers
+specifiers_exact w more inner specs decls exact =
+    same_exact (specifiers_form w) more _ (specifiers more inner w)
+    (two (one_specifier more inner w false) (λ first. many_by (goes_specifier more inner w) (one_specifier more inner w) (types more inner) (is_type first)) (λ first rest. first ∷ rest))
+    (joint_exact (row_form w) (λ t. t.0 ∷ t.1) (specifiers_form w) more _
+      (chain_exact (one_form w false) (specifier_items w) (λ x. is_type x) more (one_specifier more inner w false) (λ typed. one_specifier more inner w typed) (one_specifier_exact w false more inner specs decls exact) (specifiers_kept w more inner specs decls exact)
+        (λ names x y rest g h st. specifier_then w (is_type x) _ x y rest h)) (row_joint w))
