@@ -27,3 +27,4 @@ pub mod Declarators
 pub mod Enumerators
 pub mod Members
 pub mod Specifiers
+pub mod Depth
