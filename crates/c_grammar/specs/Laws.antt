@@ -28,3 +28,4 @@ pub mod Enumerators
 pub mod Members
 pub mod Specifiers
 pub mod Depth
+pub mod Front

@@ -3,4 +3,5 @@ pub mod Input
 pub mod Read
 pub mod Examples
 pub mod Ending
+pub mod Fronts
 pub mod Laws
