@@ -29,3 +29,5 @@ pub mod Members
 pub mod Specifiers
 pub mod Depth
 pub mod Front
+pub mod Grow
+pub mod GrowExpressions

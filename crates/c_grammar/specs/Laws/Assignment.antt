@@ -172,10 +172,10 @@ targets_are a u names (n ∷ ns) e h =
 
 -- ---- assignments
 
-abbrev assign_form : Form (Expr × List Next)
+abbrev pub assign_form : Form (Expr × List Next)
 assign_form = chain (expr_form conditional) target_items is_unary
 
-assign_good : (names : Names) (a : Expr) (ns : List Next) → assign_form.good names (a, ns) → (expr_level (with_targets a ns) names).0 ≤ assignment
+pub assign_good : (names : Names) (a : Expr) (ns : List Next) → assign_form.good names (a, ns) → (expr_level (with_targets a ns) names).0 ≤ assignment
 assign_good names a [] g = let h = g.0 in omega arith
 assign_good names a (n ∷ ns) g =
     rw (expr_level-Assign a (n ∷ ns)) (where_is _ assignment assignment (targets_told (expr_level a names).0 (is_unary a) (names ++ (expr_level a names).1) (n ∷ ns) (unary_is a names g.0) g.0 g.1) (omega arith))
@@ -194,7 +194,7 @@ run_low : (b : Bool) → (if b then cast else unary) ≤ cast
 run_low true = omega arith
 run_low false = omega arith
 
-assign_split : {x : Expr} → ExprShape x → (names : Names) → (expr_level x names).0 ≤ assignment → Split assign_form (λ t. with_targets t.0 t.1) (expr_form assignment) names x
+pub assign_split : {x : Expr} → ExprShape x → (names : Names) → (expr_level x names).0 ≤ assignment → Split assign_form (λ t. with_targets t.0 t.1) (expr_form assignment) names x
 assign_split (ExprShape.a_assign a ns) names h = assign_node a ns names h
 assign_split (ExprShape.a_name id) names h = alone (ExprShape.a_name id) names h (omega arith)
 assign_split (ExprShape.a_number value kind at) names h = alone (ExprShape.a_number value kind at) names h (omega arith)
@@ -212,7 +212,7 @@ assign_nested : (a : Expr) (ns : List Next) → expr_nesting (with_targets a ns)
 assign_nested a [] = omega arith
 assign_nested a (n ∷ ns) = expr_nesting-Assign a (n ∷ ns)
 
-assign_spelt : (a : Expr) (ns : List Next) → expr_spelling (with_targets a ns) ≡ assign_form.spell (a, ns)
+pub assign_spelt : (a : Expr) (ns : List Next) → expr_spelling (with_targets a ns) ≡ assign_form.spell (a, ns)
 assign_spelt a [] = sym (append-nil (expr_spelling a))
 assign_spelt a (n ∷ ns) = expr_spelling-Assign a (n ∷ ns)
 
@@ -222,11 +222,11 @@ assign_seen names a (n ∷ ns) =
     ap (λ f. (f names).1) (expr_level-Assign a (n ∷ ns)) ∙ ap (λ l. (expr_level a names).1 ++ l) (sym (added_in_row target_items next_level (λ names x. refl) (names ++ (expr_level a names).1) (n ∷ ns)))
 
 -- whether the last operand is unary
-left_unary : (u : Bool) (n : Next) (ns : List Next) → left target_items u (n ∷ ns) ≡ is_unary (operand_of (last_of target_items n ns))
+pub left_unary : (u : Bool) (n : Next) (ns : List Next) → left target_items u (n ∷ ns) ≡ is_unary (operand_of (last_of target_items n ns))
 left_unary u n [] = refl
 left_unary u n (m ∷ ns) = left_unary (last_unary u n) m ns
 
-last_good : (u : Bool) (names : Names) (n : Next) (ns : List Next) → all_good target_items u names (n ∷ ns) → (expr_ending (operand_of (last_of target_items n ns))).target ≡ is_unary (operand_of (last_of target_items n ns))
+pub last_good : (u : Bool) (names : Names) (n : Next) (ns : List Next) → all_good target_items u names (n ∷ ns) → (expr_ending (operand_of (last_of target_items n ns))).target ≡ is_unary (operand_of (last_of target_items n ns))
 last_good u names n [] g = target_is (operand_of n) names g.0.1.1
 last_good u names n (m ∷ ns) g = last_good (last_unary u n) (names ++ (next_level n names).1) m ns g.1
 

@@ -77,7 +77,7 @@ branch_exact more inner exact ors =
           (bracketed_exact p.Question (deeper (expr_form comma)) p.Colon more (inner.expr comma) exact (λ names x at rest g. before_mark comma (expr_ending x) p.Colon at rest (omega arith)))
           (λ t. ors) (λ names a b rest g h st. tt)) branch_node))
 
-abbrev branch_items : Items (Unit {0}) Branch
+abbrev pub branch_items : Items (Unit {0}) Branch
 branch_items = record {
     spell = branch_spelling; good = λ s. branch_form.good; adds = branch_form.adds; nest = branch_nesting; stop = branch_form.stop;
     goes = λ s. goes conditional; step = λ s b. tt
@@ -110,10 +110,10 @@ branches_are : (names : Names) (xs : List Branch) → all_true (in_row (map bran
 branches_are names [] h = tt
 branches_are names (x ∷ xs) h = let b = both_true (branch_level x names).0 _ h in (b.0, branches_are (names ++ (branch_level x names).1) xs b.1)
 
-abbrev conditional_form : Form (Expr × List Branch)
+abbrev pub conditional_form : Form (Expr × List Branch)
 conditional_form = chain (expr_form or) branch_items (λ a. tt)
 
-conditional_good : (names : Names) (a : Expr) (xs : List Branch) → conditional_form.good names (a, xs) → (expr_level (with_branches a xs) names).0 ≤ conditional
+pub conditional_good : (names : Names) (a : Expr) (xs : List Branch) → conditional_form.good names (a, xs) → (expr_level (with_branches a xs) names).0 ≤ conditional
 conditional_good names a [] g = let h = g.0 in omega arith
 conditional_good names a (x ∷ xs) g =
     rw (expr_level-Conditional a (x ∷ xs)) (where_is _ conditional conditional (both_are _ _ (nat_le-is (expr_level a names).0 or g.0) (branches_good (names ++ (expr_level a names).1) (x ∷ xs) g.1)) (omega arith))
@@ -136,7 +136,7 @@ run_low : (b : Bool) → (if b then cast else unary) ≤ cast
 run_low true = omega arith
 run_low false = omega arith
 
-conditional_split : {x : Expr} → ExprShape x → (names : Names) → (expr_level x names).0 ≤ conditional → Split conditional_form (λ t. with_branches t.0 t.1) (expr_form conditional) names x
+pub conditional_split : {x : Expr} → ExprShape x → (names : Names) → (expr_level x names).0 ≤ conditional → Split conditional_form (λ t. with_branches t.0 t.1) (expr_form conditional) names x
 conditional_split (ExprShape.a_conditional a xs) names h = conditional_node a xs names h
 conditional_split (ExprShape.a_name id) names h = alone (ExprShape.a_name id) names h (omega arith)
 conditional_split (ExprShape.a_number value kind at) names h = alone (ExprShape.a_number value kind at) names h (omega arith)
@@ -154,7 +154,7 @@ conditional_nested : (a : Expr) (xs : List Branch) → expr_nesting (with_branch
 conditional_nested a [] = omega arith
 conditional_nested a (x ∷ xs) = expr_nesting-Conditional a (x ∷ xs)
 
-conditional_spelt : (a : Expr) (xs : List Branch) → expr_spelling (with_branches a xs) ≡ conditional_form.spell (a, xs)
+pub conditional_spelt : (a : Expr) (xs : List Branch) → expr_spelling (with_branches a xs) ≡ conditional_form.spell (a, xs)
 conditional_spelt a [] = sym (append-nil (expr_spelling a))
 conditional_spelt a (x ∷ xs) = expr_spelling-Conditional a (x ∷ xs)
 
@@ -163,7 +163,7 @@ conditional_seen names a [] = sym (append-nil (expr_level a names).1)
 conditional_seen names a (x ∷ xs) =
     ap (λ f. (f names).1) (expr_level-Conditional a (x ∷ xs)) ∙ ap (λ l. (expr_level a names).1 ++ l) (sym (added_in_row branch_items branch_level (λ names x. refl) (names ++ (expr_level a names).1) (x ∷ xs)))
 
-branch_last : (e : Ending) (x : Branch) (xs : List Branch) → last e (map branch_ending (x ∷ xs)) ≡ expr_ending (out-Branch (last_of branch_items x xs)).operand
+pub branch_last : (e : Ending) (x : Branch) (xs : List Branch) → last e (map branch_ending (x ∷ xs)) ≡ expr_ending (out-Branch (last_of branch_items x xs)).operand
 branch_last e x [] = branch_ending-is x
 branch_last e x (y ∷ ys) = branch_last (branch_ending x) y ys
 

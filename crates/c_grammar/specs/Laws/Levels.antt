@@ -37,7 +37,7 @@ pub record Made (make : Expr → List Next → Expr) (x : Expr) : Type 0 where
 abbrev pub flat : ℕ → ℕ
 flat n = n
 
-flat_is : (n : ℕ) → max 0 (flat n) ≡ flat n
+pub flat_is : (n : ℕ) → max 0 (flat n) ≡ flat n
 flat_is n = omega arith
 
 -- how nodes of a production are made of an operand and a list
@@ -58,13 +58,13 @@ module _ (level within : ℕ) (make : Expr → List Next → Expr) (turn : Endin
   abbrev pub row_form : Form (Expr × List Next)
   row_form = chain (expr_form within) (next_items level within flat) (λ a. tt)
 
-  row_good : (names : Names) (a : Expr) (ns : List Next) → row_form.good names (a, ns) → (expr_level (make a ns) names).0 ≤ level
+  pub row_good : (names : Names) (a : Expr) (ns : List Next) → row_form.good names (a, ns) → (expr_level (make a ns) names).0 ≤ level
   row_good names a [] g = subst (λ x. (expr_level x names).0 ≤ level) (sym (row.alone a)) (let h = g.0 in omega arith)
   row_good names a (n ∷ ns) g =
       subst (λ m. m ≤ level) (sym (row.told names a n ns))
       (where_is _ level level (both_are _ _ (nat_le-is (expr_level a names).0 within g.0) (operands_good level within flat flat_is (omega arith) low (names ++ (expr_level a names).1) (n ∷ ns) g.1)) (omega arith))
 
-  row_split : (names : Names) (x : Expr) → (expr_level x names).0 ≤ level → (expr_level x names).0 ≤ within ⊎ Made make x → Split row_form (λ t. make t.0 t.1) (expr_form level) names x
+  pub row_split : (names : Names) (x : Expr) → (expr_level x names).0 ≤ level → (expr_level x names).0 ≤ within ⊎ Made make x → Split row_form (λ t. make t.0 t.1) (expr_form level) names x
   row_split names x h (inl g) = record { tuple = (x, []); whole = row.alone x; good = (g, tt) }
   row_split names x h (inr m) =
       let h1 : (expr_level (make m.first (m.next ∷ m.rest)) names).0 ≤ level = subst (λ x. (expr_level x names).0 ≤ level) (sym m.whole) h in
@@ -79,7 +79,7 @@ module _ (level within : ℕ) (make : Expr → List Next → Expr) (turn : Endin
   row_nested a [] = ap expr_nesting (row.alone a) ∙ omega arith
   row_nested a (n ∷ ns) = row.nested a n ns
 
-  row_spelt : (a : Expr) (ns : List Next) → expr_spelling (make a ns) ≡ row_form.spell (a, ns)
+  pub row_spelt : (a : Expr) (ns : List Next) → expr_spelling (make a ns) ≡ row_form.spell (a, ns)
   row_spelt a [] = ap expr_spelling (row.alone a) ∙ sym (append-nil (expr_spelling a))
   row_spelt a (n ∷ ns) = row.spelt a n ns
 
@@ -201,7 +201,7 @@ binary_split (ExprShape.a_paren from inner to) lv names h = tight (ExprShape.a_p
 binary_split (ExprShape.a_postfix operand suffixes) lv names h = tight (ExprShape.a_postfix operand suffixes) lv names h (omega arith)
 binary_split (ExprShape.a_sizeof_type at from type to) lv names h = tight (ExprShape.a_sizeof_type at from type to) lv names h (omega arith)
 
-binary_row : (lv : Level) → Row (of_level lv) (below lv) (with_operands lv) no_target
+pub binary_row : (lv : Level) → Row (of_level lv) (below lv) (with_operands lv) no_target
 binary_row lv = let l = level_low lv in let d = below_level lv in record {
     alone = λ a. refl;
     told = λ names a n ns. ap (λ f. (f names).0) (expr_level-Binary lv a (n ∷ ns));
@@ -246,7 +246,7 @@ comma_split (ExprShape.a_paren from inner to) names h = within_assignment (ExprS
 comma_split (ExprShape.a_postfix operand suffixes) names h = within_assignment (ExprShape.a_postfix operand suffixes) names h (omega arith)
 comma_split (ExprShape.a_sizeof_type at from type to) names h = within_assignment (ExprShape.a_sizeof_type at from type to) names h (omega arith)
 
-comma_row : Row comma assignment with_commas (λ e. e)
+pub comma_row : Row comma assignment with_commas (λ e. e)
 comma_row = record {
     alone = λ a. refl;
     told = λ names a n ns. ap (λ f. (f names).0) (expr_level-Comma a (n ∷ ns));

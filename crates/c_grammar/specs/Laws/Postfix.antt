@@ -443,7 +443,7 @@ suffixes_are names (x ∷ xs) h = let b = both_true (suffix_level x names).0 _ h
 abbrev pub postfix_form : Form (Expr × List Suffix)
 postfix_form = chain (expr_form primary) suffix_items (λ a. tt)
 
-postfix_good : (names : Names) (a : Expr) (xs : List Suffix) → postfix_form.good names (a, xs) → (expr_level (with_suffixes a xs) names).0 ≤ postfix
+pub postfix_good : (names : Names) (a : Expr) (xs : List Suffix) → postfix_form.good names (a, xs) → (expr_level (with_suffixes a xs) names).0 ≤ postfix
 postfix_good names a [] g = let h = g.0 in omega arith
 postfix_good names a (x ∷ xs) g =
     rw (expr_level-Postfix a (x ∷ xs)) (where_is _ postfix postfix (both_are _ _ (nat_le-is (expr_level a names).0 primary g.0) (suffixes_good (names ++ (expr_level a names).1) (x ∷ xs) g.1)) (omega arith))

@@ -58,7 +58,7 @@ abbrev is_sizeof_layer : PrefixLayer → Bool
 is_sizeof_layer (Prefix-F.Sizeof at) = true
 is_sizeof_layer _ = false
 
-unfoldable is_sizeof_prefix : Prefix → Bool
+unfoldable pub is_sizeof_prefix : Prefix → Bool
 is_sizeof_prefix x = is_sizeof_layer (out-Prefix x)
 
 abbrev prefix_form : Form Prefix
@@ -262,7 +262,7 @@ cast_seen names from type to rest g =
 
 -- ---- a run
 
-abbrev prefix_items : Items Bool Prefix
+abbrev pub prefix_items : Items Bool Prefix
 prefix_items = record {
     spell = prefix_spelling;
     good = λ tight names x. kind_fits tight (prefix_level x names).0 ≡ true;
@@ -546,14 +546,14 @@ sizeof_of t = expr.SizeofType t.0.0.0 t.0.0.1 t.0.1 t.1
 abbrev sizeof_parts : Form (((Pos × Pos) × TypeName) × Pos)
 sizeof_parts = closed (pre (pre sizeof_form (λ _. opening_form p.LeftParen)) (λ _. deeper type_form)) p.RightParen
 
-abbrev sized : Ending
+abbrev pub sized : Ending
 sized = record { text = false; size = true; target = true }
 
 sized_by : (b : Bool) (j : ℕ) → nat_le j postfix ≡ b → postfix < cond b none j
 sized_by true j e = omega arith
 sized_by false j e = nat_le-false j postfix e
 
-sized_stop : (o : Option TokenKind) → postfix < goes_on sized o
+pub sized_stop : (o : Option TokenKind) → postfix < goes_on sized o
 sized_stop None = omega arith
 sized_stop (Some (k.Punct op)) = sized_by (nat_le (joins op) postfix) (joins op) refl
 sized_stop (Some (k.Bytes bytes)) = omega arith
@@ -672,14 +672,14 @@ operand_by names x rest (inr n) h = postfix_no_prefix names x rest (tighter (exp
 operand_no_prefix : (names : Names) (x : Expr) (rest : Tokens) → (expr_level x names).0 ≤ prefixed → NoPrefix names (expr_spelling x ++ rest)
 operand_no_prefix names x rest h = operand_by names x rest (prefixed_is (expr_shape x) names h) h
 
-abbrev run_form : Form (List Prefix × Expr)
+abbrev pub run_form : Form (List Prefix × Expr)
 run_form = seq (list prefix_items false) (λ run. expr_form prefixed)
 
 run_stops : (run : List Prefix) (names : Names) (ts : Tokens) → NoPrefix names ts → all_stop prefix_items false run names ts
 run_stops [] names ts n = n.goes false
 run_stops (x ∷ xs) names ts n = stop_made prefix_items false x xs names ts (ap (λ b. is_sizeof_prefix (last_of prefix_items x xs) && b) n.casts ∙ and_no _) (n.goes _)
 
-run_good : (names : Names) (run : List Prefix) (a : Expr) → run_form.good names (run, a) → (expr_level (with_run run a) names).0 ≤ cast
+pub run_good : (names : Names) (run : List Prefix) (a : Expr) → run_form.good names (run, a) → (expr_level (with_run run a) names).0 ≤ cast
 run_good names [] a g = let h = subst (λ n. (expr_level a n).0 ≤ prefixed) (append-nil names) g.1 in omega arith
 run_good names (x ∷ xs) a g =
     let kinds = in_row (map prefix_level (x ∷ xs)) names in
@@ -709,7 +709,7 @@ bare {x} s names h n = record { tuple = ([], x); whole = refl; good = (tt, subst
 loose_cast : {x : Expr} (s : ExprShape x) (names : Names) → (expr_level x names).0 ≤ cast → cast < shape_number s → ⊥
 loose_cast s names h n = let e = number_within s names cast h (omega arith) in omega arith
 
-run_split : {x : Expr} → ExprShape x → (names : Names) → (expr_level x names).0 ≤ cast → Split run_form (λ t. with_run t.0 t.1) (expr_form cast) names x
+pub run_split : {x : Expr} → ExprShape x → (names : Names) → (expr_level x names).0 ≤ cast → Split run_form (λ t. with_run t.0 t.1) (expr_form cast) names x
 run_split (ExprShape.a_prefixed run a) names h = run_split_node run a names h
 run_split (ExprShape.a_name id) names h = bare (ExprShape.a_name id) names h (omega arith)
 run_split (ExprShape.a_number value kind at) names h = bare (ExprShape.a_number value kind at) names h (omega arith)
@@ -727,7 +727,7 @@ run_nested : (run : List Prefix) (a : Expr) → expr_nesting (with_run run a) �
 run_nested [] a = omega arith
 run_nested (x ∷ xs) a = expr_nesting-Prefixed (x ∷ xs) a
 
-run_spelt : (run : List Prefix) (a : Expr) → expr_spelling (with_run run a) ≡ run_form.spell (run, a)
+pub run_spelt : (run : List Prefix) (a : Expr) → expr_spelling (with_run run a) ≡ run_form.spell (run, a)
 run_spelt [] a = refl
 run_spelt (x ∷ xs) a = expr_spelling-Prefixed (x ∷ xs) a
 
