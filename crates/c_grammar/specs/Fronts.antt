@@ -29,19 +29,20 @@ module _ {A : Type 0} (trees : Trees A) where
     pub begins : Begins names front
     pub longest : (next : Token) (others : Tokens) → rest ≡ next ∷ others → Begins names (front ++ next ∷ []) → ⊥
 
-  -- what was read, and the state behind it
-  pub record Gives (more : ℕ) (names : Names) (front rest : Tokens) (tree : A) (behind : State) : Type 0 where
+  -- what was read is a tree that nests no deeper than this, and its spelling the longest front
+  pub record Found (more : ℕ) (names : Names) (tokens : Tokens) (tree : A) (behind : State) : Type 0 where
     pub levelled : trees.levelled names tree
     pub nested : trees.nesting tree ≤ more
-    pub spelt : trees.spelling tree ≡ front
+    pub front : IsFront names tokens (trees.spelling tree) behind.1
     pub names_are : behind.0 ≡ names ++ trees.declares names tree
-    pub rest_is : behind.1 ≡ rest
 
   -- Ok comes exactly where the longest front is the spelling of a tree that nests no deeper than this
   pub record OkAtFront (more : ℕ) (reads : Parser A) : Type 0 where
-    pub comes : (names : Names) (tokens front rest : Tokens) → IsFront names tokens front rest → (tree : A) → trees.levelled names tree → trees.nesting tree ≤ more → trees.spelling tree ≡ front
+    -- there it gives that tree, and the names and the tokens behind it
+    pub comes : (names : Names) (tokens rest : Tokens) (tree : A) → trees.levelled names tree → trees.nesting tree ≤ more → IsFront names tokens (trees.spelling tree) rest
         → reads (names, tokens) ≡ Ok (tree, (names ++ trees.declares names tree, rest))
-    pub gives : (names : Names) (tokens front rest : Tokens) → IsFront names tokens front rest → (tree : A) (behind : State) → reads (names, tokens) ≡ Ok (tree, behind) → Gives more names front rest tree behind
+    -- and nowhere else
+    pub found : (names : Names) (tokens : Tokens) (tree : A) (behind : State) → reads (names, tokens) ≡ Ok (tree, behind) → Found more names tokens tree behind
 
   -- two levelled trees of one spelling are one
   abbrev pub SpellingIsUnique : Type 0

@@ -31,3 +31,6 @@ pub mod Depth
 pub mod Front
 pub mod Grow
 pub mod GrowExpressions
+pub mod GrowSpecifiers
+pub mod GrowDeclarators
+pub mod Productions

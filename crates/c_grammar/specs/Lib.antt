@@ -4,4 +4,5 @@ pub mod Read
 pub mod Examples
 pub mod Ending
 pub mod Fronts
+pub mod Productions
 pub mod Laws

@@ -587,7 +587,7 @@ module _ (more : ℕ) (inner : Inner) (purpose : Use) (typed : Bool) (exact : Ex
       chain_exact (front_form purpose typed) behind_items (λ t. tt) more _ (λ s. one_suffix more inner) front_exact (suffixes_kept more inner (suffix_exact more inner exact firsts nexts))
       (λ names t x rest g h st. front_follows purpose typed names t x rest g h)
 
-abbrev declarator_of : (List Pointer × Direct) × List DeclaratorSuffix → Declarator
+abbrev pub declarator_of : (List Pointer × Direct) × List DeclaratorSuffix → Declarator
 declarator_of t = roll-Declarator (record { pointers = t.0.0; direct = t.0.1; suffixes = t.1 })
 
 suffixes_told : (names : Names) (xs : List DeclaratorSuffix) → all_good behind_items tt names xs → suffixes_good (in_row (map declarator_suffix_level xs) names).0 ≡ true
@@ -603,12 +603,12 @@ module _ (purpose : Use) (typed : Bool) where
   parts_names names t =
       ap (λ l. names ++ (l ++ (direct_level t.0.1 (names ++ l)).1)) (pointers_quiet names t.0.0) ∙ ap (λ n. names ++ (direct_level t.0.1 n).1) (append-nil names)
 
-  declarator_good : (names : Names) (t : (List Pointer × Direct) × List DeclaratorSuffix) → (parts_form purpose typed).good names t → declares purpose typed (declarator_level (declarator_of t) names).0 ≡ true
+  pub declarator_good : (names : Names) (t : (List Pointer × Direct) × List DeclaratorSuffix) → (parts_form purpose typed).good names t → declares purpose typed (declarator_level (declarator_of t) names).0 ≡ true
   declarator_good names t g =
       parts_declare purpose typed (declarator_of t) names (subst (λ n. declares purpose typed (direct_level t.0.1 n).0 ≡ true) (front_names names t.0.0) g.0.1)
       (suffixes_told (names ++ (direct_level t.0.1 names).1) t.1 (subst (λ n. all_good behind_items tt n t.1) (parts_names names t) g.1))
 
-  declarator_parts : (names : Names) (t : (List Pointer × Direct) × List DeclaratorSuffix) → declares purpose typed (declarator_level (declarator_of t) names).0 ≡ true → (parts_form purpose typed).good names t
+  pub declarator_parts : (names : Names) (t : (List Pointer × Direct) × List DeclaratorSuffix) → declares purpose typed (declarator_level (declarator_of t) names).0 ≡ true → (parts_form purpose typed).good names t
   declarator_parts names t h =
       let b = declares_parts purpose typed (declarator_of t) names h in
       ((pointers_good names t.0.0, subst (λ n. declares purpose typed (direct_level t.0.1 n).0 ≡ true) (sym (front_names names t.0.0)) b.0),
@@ -621,7 +621,7 @@ module _ (purpose : Use) (typed : Bool) where
       ∙ sym (ap (λ l. (l ++ (direct_level t.0.1 (names ++ l)).1) ++ all_added behind_items (names ++ (l ++ (direct_level t.0.1 (names ++ l)).1)) t.1) (pointers_quiet names t.0.0)
         ∙ ap (λ n. (direct_level t.0.1 n).1 ++ all_added behind_items (names ++ (direct_level t.0.1 n).1) t.1) (append-nil names))
 
-  declarator_node : Node (parts_form purpose typed) declarator_of (declarator_form purpose typed)
+  pub declarator_node : Node (parts_form purpose typed) declarator_of (declarator_form purpose typed)
   declarator_node = record {
       good = declarator_good;
       parts = declarator_parts;

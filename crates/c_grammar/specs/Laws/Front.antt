@@ -4,7 +4,7 @@ use Rattle.std.proofs.Common.{ap, sym, ◌∙◌, subst, arith, append_assoc, ap
 use Rattle.c_tree.specs.declared.token.Token.{Token}
 use Rattle.c_tree.specs.Levels.Names.{Names}
 use Rattle.c_grammar.specs.Input.{Tokens, State, Outcome, Parser}
-use Rattle.c_grammar.specs.Fronts.{Trees, Begins, IsFront, Gives, OkAtFront, SpellingIsUnique, FrontIsUnique}
+use Rattle.c_grammar.specs.Fronts.{Trees, Begins, IsFront, Found, OkAtFront, SpellingIsUnique, FrontIsUnique}
 use Rattle.c_grammar.specs.Laws.Form.{Form, Got, Exact, ok_pair}
 
 -- a longer tree, which goes on with the token
@@ -92,11 +92,40 @@ module _ {A : Type 0} (F : Form A) (stops : Stops F) (reads : ℕ → Parser A) 
 
   pub ok_at_front : (more : ℕ) → OkAtFront (trees_of F) more (reads more)
   ok_at_front more = record {
-      comes = λ names ts front rest f x g n s.
-          let st = stops_at names x rest g (λ t r e b. f.longest t r e (subst (λ l. Begins (trees_of F) names (l ++ t ∷ [])) s b)) in
-          ap (λ l. reads more (names, l)) (f.whole ∙ ap (λ l. l ++ rest) (sym s)) ∙ (exact more).complete names x rest g n st;
-      gives = λ names ts front rest f x s h.
+      comes = λ names ts rest x g n f.
+          ap (λ l. reads more (names, l)) f.whole ∙ (exact more).complete names x rest g n (stops_at names x rest g f.longest);
+      found = λ names ts x s h.
           let g = (exact more).sound names ts x s h in
-          let u = front_unique (trees_of F) names ts (F.spell x) s.1 front rest (front_of more names ts x s g) f in
-          record { levelled = g.good; nested = g.nested; spelt = u.0; names_are = g.seen; rest_is = u.1 };
+          record { levelled = g.good; nested = g.nested; front = front_of more names ts x s g; names_are = g.seen };
     }
+
+-- ---- trees that are levelled where others are
+
+module _ {A : Type 0} (T U : A → Names → Type 0) (spelling : A → Tokens) (declares : Names → A → Names) (nesting : A → ℕ)
+    (to : (names : Names) (x : A) → T x names → U x names) (from : (names : Names) (x : A) → U x names → T x names) where
+  abbrev first : Trees A
+  first = record { spelling = spelling; levelled = λ names x. T x names; declares = declares; nesting = nesting }
+
+  abbrev second : Trees A
+  second = record { spelling = spelling; levelled = λ names x. U x names; declares = declares; nesting = nesting }
+
+  begins_to : (names : Names) (front : Tokens) → Begins first names front → Begins second names front
+  begins_to names front b = record { tree = b.tree; levelled = to names b.tree b.levelled; others = b.others; spelt = b.spelt }
+
+  begins_from : (names : Names) (front : Tokens) → Begins second names front → Begins first names front
+  begins_from names front b = record { tree = b.tree; levelled = from names b.tree b.levelled; others = b.others; spelt = b.spelt }
+
+  front_to : (names : Names) (ts front rest : Tokens) → IsFront first names ts front rest → IsFront second names ts front rest
+  front_to names ts front rest f = record { whole = f.whole; begins = begins_to names front f.begins; longest = λ t r e b. f.longest t r e (begins_from names (front ++ t ∷ []) b) }
+
+  front_from : (names : Names) (ts front rest : Tokens) → IsFront second names ts front rest → IsFront first names ts front rest
+  front_from names ts front rest f = record { whole = f.whole; begins = begins_from names front f.begins; longest = λ t r e b. f.longest t r e (begins_to names (front ++ t ∷ []) b) }
+
+  pub ok_to : (more : ℕ) (reads : Parser A) → OkAtFront first more reads → OkAtFront second more reads
+  ok_to more reads o = record {
+      comes = λ names ts rest x g n f. o.comes names ts rest x (from names x g) n (front_from names ts (spelling x) rest f);
+      found = λ names ts x s h. let g = o.found names ts x s h in record { levelled = to names x g.levelled; nested = g.nested; front = front_to names ts (spelling x) s.1 g.front; names_are = g.names_are };
+    }
+
+  pub unique_to : SpellingIsUnique first → SpellingIsUnique second
+  unique_to u names a b ga gb e = u names a b (from names a ga) (from names b gb) e

@@ -56,10 +56,10 @@ from_typed a b d names before rest g h = parts_typed a b (parts_of d).0.0 (parts
 
 -- ---- a member's declarator
 
-abbrev declarator_in : MemberDeclarator → Declarator
+abbrev pub declarator_in : MemberDeclarator → Declarator
 declarator_in x = (out-MemberDeclarator x).declarator
 
-abbrev item_form : (Option Pos → Type 0) → Bool → Form MemberDeclarator
+abbrev pub item_form : (Option Pos → Type 0) → Bool → Form MemberDeclarator
 item_form comma typed = record {
     spell = member_declarator_spelling;
     good = λ names x. comma (out-MemberDeclarator x).comma × (declares Declaring typed (declarator_level (declarator_in x) names).0 ≡ true);
@@ -68,10 +68,10 @@ item_form comma typed = record {
     stop = λ x names rest. (declarator_form Declaring true).stop (declarator_in x) names rest;
   }
 
-abbrev IsNone : Option Pos → Type 0
+abbrev pub IsNone : Option Pos → Type 0
 IsNone c = c ≡ None
 
-abbrev IsComma : Option Pos → Type 0
+abbrev pub IsComma : Option Pos → Type 0
 IsComma c = is_some c ≡ true
 
 abbrev first_of : Declarator → MemberDeclarator
@@ -126,7 +126,7 @@ next_exact more inner typed declarators =
 
 -- ---- declarators with commas between
 
-abbrev declarator_items : Items Bool MemberDeclarator
+abbrev pub declarator_items : Items Bool MemberDeclarator
 declarator_items = record {
     spell = member_declarator_spelling; good = λ typed. (item_form IsComma typed).good; adds = λ names x. (member_declarator_level x names).1; nest = λ x. member_declarator_nesting x + 1;
     stop = λ x names rest. (declarator_form Declaring true).stop (declarator_in x) names rest;
@@ -181,16 +181,16 @@ module _ {S X : Type 0} (goes : State → Bool) (item : S → Parser X) (s : S) 
 
 -- ---- a member
 
-abbrev member_chain : Form ((List Specifier × MemberDeclarator) × List MemberDeclarator)
+abbrev pub member_chain : Form ((List Specifier × MemberDeclarator) × List MemberDeclarator)
 member_chain = chain (seq (deeper (specifiers_form false)) (λ specifiers. item_form IsNone (name_type specifiers))) declarator_items (λ t. name_type t.0)
 
-abbrev member_parts : Form (((List Specifier × MemberDeclarator) × List MemberDeclarator) × Pos)
+abbrev pub member_parts : Form (((List Specifier × MemberDeclarator) × List MemberDeclarator) × Pos)
 member_parts = closed member_chain p.Semicolon
 
-abbrev node_of : ((List Specifier × MemberDeclarator) × List MemberDeclarator) × Pos → MemberLayer
+abbrev pub node_of : ((List Specifier × MemberDeclarator) × List MemberDeclarator) × Pos → MemberLayer
 node_of t = record { specifiers = t.0.0.0; declarators = t.0.0.1 ∷ t.0.1; semicolon = t.1 }
 
-abbrev member_of : ((List Specifier × MemberDeclarator) × List MemberDeclarator) × Pos → Member
+abbrev pub member_of : ((List Specifier × MemberDeclarator) × List MemberDeclarator) × Pos → Member
 member_of t = roll-Member (node_of t)
 
 member_level_is : (t : ((List Specifier × MemberDeclarator) × List MemberDeclarator) × Pos)
@@ -238,7 +238,7 @@ no_first_comma : (c : Option Pos) → not (is_some c) ≡ true → c ≡ None
 no_first_comma None h = refl
 no_first_comma (Some at) h = absurd cc
 
-member_good : (names : Names) (t : ((List Specifier × MemberDeclarator) × List MemberDeclarator) × Pos) → member_parts.good names t → (member_level (member_of t) names).0 ≡ true
+pub member_good : (names : Names) (t : ((List Specifier × MemberDeclarator) × List MemberDeclarator) × Pos) → member_parts.good names t → (member_level (member_of t) names).0 ≡ true
 member_good names t g =
     let r = in_row (map specifier_level t.0.0.0) names in
     let x : MemberDeclarator = t.0.0.1 in

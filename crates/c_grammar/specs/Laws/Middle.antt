@@ -190,7 +190,7 @@ grouped_exact more inner purpose typed exact =
 
 -- ---- a name
 
-name_seen : (purpose : Use) (typed : Bool) (names : Names) (id : Identifier) → takes_name purpose typed names (Some (k.Name id.text)) ≡ true → declares purpose typed (direct_level (direct.Named id) names).0 ≡ true
+pub name_seen : (purpose : Use) (typed : Bool) (names : Names) (id : Identifier) → takes_name purpose typed names (Some (k.Name id.text)) ≡ true → declares purpose typed (direct_level (direct.Named id) names).0 ≡ true
 name_seen Declaring typed names id h = ap (λ f. declares Declaring typed (f names).0) (direct_level-Named id) ∙ h
 name_seen Abstract typed names id h = absurd cc
 name_seen Parameter typed names id h = ap (λ f. declares Parameter typed (f names).0) (direct_level-Named id) ∙ h

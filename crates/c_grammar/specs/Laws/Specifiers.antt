@@ -45,7 +45,7 @@ use Rattle.c_grammar.specs.Laws.SpecifierStarts.{StartsSpecifier, specifier_star
 use Rattle.c_grammar.specs.Laws.Enumerators.{layer_comma, comma_told, first_enumerator, next_form, enumerator_items, enum_body_form, enum_body_exact, layer_nest, enumerator_deep}
 use Rattle.c_grammar.specs.Laws.Members.{member_form, member_items, struct_body_form, struct_body_exact}
 
-abbrev one_form : Bool → Bool → Form Specifier
+abbrev pub one_form : Bool → Bool → Form Specifier
 one_form w typed = item (specifier_items w) typed
 
 or_true : (b : Bool) → (b || true) ≡ true
@@ -54,7 +54,7 @@ or_true false = refl
 
 -- ---- specifiers of one token
 
-abbrev IsPlain : Specifier → Type 0
+abbrev pub IsPlain : Specifier → Type 0
 IsPlain x = Image (λ (t : Storage × Pos). specifier.Storage t.0 t.1) x ⊎ (Image specifier.Const x ⊎ (Image (λ (t : TypeWord × Pos). specifier.Word t.0 t.1) x ⊎ Image specifier.TypedefName x))
 
 storage_no_tag : (st : Storage) (at : Pos) (b : Bool) → (is_tag (specifier.Storage st at) && b) ≡ false
@@ -170,7 +170,7 @@ name_by : (w typed : Bool) (names : Names) (text : List ℕ) (place : Pos) (a : 
 name_by w typed names text place a true e h = made_typedef w typed names (record { text = text; place = place }) a (swapped (is_typedef_name names text) typed e) (some_is _ _ h)
 name_by w typed names text place a false e h = absurd cc
 
-plain_made : (w typed : Bool) (names : Names) (kind : TokenKind) (place : Pos) (a : Specifier) → plain_at w typed names kind place ≡ Some a → IsPlain a × MadeOf (one_form w typed) names kind place a
+pub plain_made : (w typed : Bool) (names : Names) (kind : TokenKind) (place : Pos) (a : Specifier) → plain_at w typed names kind place ≡ Some a → IsPlain a × MadeOf (one_form w typed) names kind place a
 plain_made w typed names (k.Keyword key) place a h = key_made w typed names key place a h
 plain_made w typed names (k.Name text) place a h = name_by w typed names text place a (not typed && is_typedef_name names text) refl h
 plain_made w typed names (k.Punct op) place a h = absurd cc
