@@ -1,6 +1,6 @@
 -- How one node ends, from how its parts end: which tokens go on with the tree that would not go on with another.
-use Rattle.std.specs.Prelude.{ℕ, Bool, true, false, List, [], ◌∷◌}
-use Rattle.c_tree.specs.declared.declarator.DeclaratorSuffix.TheOpen.{DeclaratorSuffix-F, Direct-F, Expr-F, Prefix-F, Suffix-F, Enumerator-F, Specifier-F}
+use Rattle.std.specs.Prelude.{Bool, true, false, List, [], ◌∷◌}
+use Rattle.c_tree.specs.declared.declarator.DeclaratorSuffix.TheOpen.{Expr-F, Prefix-F}
 use Rattle.c_tree.specs.Layers.{DeclaratorSuffixOf, DirectOf, ExprOf, PrefixOf, SuffixOf, EnumeratorOf, SpecifierOf, DeclaratorOf, ParameterOf, BranchOf, NextOf, TypeNameOf, MemberOf, MemberDeclaratorOf}
 
 pub record Ending : Type 0 where

@@ -1,13 +1,12 @@
 -- Written by tools/grammar_tables.py.
 -- The fold whose steps stand in Ending.OfTrees, and one equation for each kind of node.
-use Rattle.std.specs.Prelude.{◌≡◌, ℕ, Bool, List, Option, map}
+use Rattle.std.specs.Prelude.{◌≡◌, ℕ, List, Option, map}
 use Rattle.std.proofs.Common.{ap, sym, ◌∙◌}
 use Rattle.c_tree.specs.declared.expression.Identifier.{Identifier}
 use Rattle.c_tree.specs.declared.token.IntKind.{IntKind}
 use Rattle.c_tree.specs.declared.expression.Level.{Level}
 use Rattle.c_tree.specs.declared.expression.Literal.{Literal}
 use Rattle.c_tree.specs.declared.expression.Mark.{Mark}
-use Rattle.c_tree.specs.declared.declarator.Pointer.{Pointer}
 use Rattle.c_tree.specs.declared.token.Pos.{Pos}
 use Rattle.c_tree.specs.declared.specifier.Storage.{Storage}
 use Rattle.c_tree.specs.declared.specifier.TypeWord.{TypeWord}
@@ -32,7 +31,7 @@ use Rattle.c_tree.specs.declared.expression.Next.{Next, out-Next, roll-Next, rol
 use Rattle.c_tree.specs.declared.expression.TypeName.{TypeName, out-TypeName, roll-TypeName, roll-out-TypeName}
 use Rattle.c_tree.specs.declared.specifier.Member.{Member, out-Member, roll-Member, roll-out-Member}
 use Rattle.c_tree.specs.declared.specifier.MemberDeclarator.{MemberDeclarator, out-MemberDeclarator, roll-MemberDeclarator, roll-out-MemberDeclarator}
-use Rattle.c_tree.specs.declared.declarator.DeclaratorSuffix.TheOpen.{DeclaratorSuffix-F, Direct-F, Expr-F, Prefix-F, Suffix-F, Enumerator-F, Specifier-F, Declarator-F, Parameter-F, Branch-F, Next-F, TypeName-F, Member-F, MemberDeclarator-F}
+use Rattle.c_tree.specs.declared.declarator.DeclaratorSuffix.TheOpen.{DeclaratorSuffix-F, Direct-F, Expr-F, Prefix-F, Suffix-F, Enumerator-F, Specifier-F}
 use Rattle.c_tree.specs.Layers.{DeclaratorSuffixLayer, DirectLayer, ExprLayer, PrefixLayer, SuffixLayer, EnumeratorLayer, SpecifierLayer, DeclaratorLayer, ParameterLayer, BranchLayer, NextLayer, TypeNameLayer, MemberLayer, MemberDeclaratorLayer}
 use Rattle.c_tree.specs.declared.declarator.DeclaratorSuffix.TheFolds.{fold-DeclaratorSuffix, fold-roll-DeclaratorSuffix, map-DeclaratorSuffix, fold-Direct, fold-roll-Direct, map-Direct, fold-Expr, fold-roll-Expr, map-Expr, fold-Prefix, fold-roll-Prefix, map-Prefix, fold-Suffix, fold-roll-Suffix, map-Suffix, fold-Enumerator, fold-roll-Enumerator, map-Enumerator, fold-Specifier, fold-roll-Specifier, map-Specifier, fold-Declarator, fold-roll-Declarator, map-Declarator, fold-Parameter, fold-roll-Parameter, map-Parameter, fold-Branch, fold-roll-Branch, map-Branch, fold-Next, fold-roll-Next, map-Next, fold-TypeName, fold-roll-TypeName, map-TypeName, fold-Member, fold-roll-Member, map-Member, fold-MemberDeclarator, fold-roll-MemberDeclarator, map-MemberDeclarator}
 use Rattle.c_grammar.specs.Ending.OfTrees.{Ending, ending_of_declarator_suffix, ending_of_direct, ending_of_expr, ending_of_prefix, ending_of_suffix, ending_of_enumerator, ending_of_specifier, ending_of_declarator, ending_of_parameter, ending_of_branch, ending_of_next, ending_of_type_name, ending_of_member, ending_of_member_declarator}

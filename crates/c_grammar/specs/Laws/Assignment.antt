@@ -1,35 +1,32 @@
 -- Assignments are read exactly (C11 6.5.16): what may stand behind an operand depends on whether it is a unary expression.
-use Rattle.std.specs.Prelude.{◌≡◌, ℕ, zero, suc, ◌+◌, ◌≤◌, ◌<◌, max, Bool, true, false, not, ◌&&◌, ◌||◌, if◌then◌else◌, nat_le, List, [], ◌∷◌, ◌++◌, length, map, Option, Some, None, Ok, refl}
-use Rattle.std.proofs.Common.{ap, sym, ◌∙◌, subst, cond, arith, append_assoc, append-nil, ◌⊎◌, inl, inr}
+use Rattle.std.specs.Prelude.{◌≡◌, ℕ, ◌≤◌, ◌<◌, max, Bool, true, false, not, ◌&&◌, if◌then◌else◌, nat_le, List, [], ◌∷◌, ◌++◌, map, Option, Some, None, refl}
+use Rattle.std.proofs.Common.{ap, sym, ◌∙◌, subst, cond, arith, append-nil}
 use denote.Hole.Carrier.{out}
 use Rattle.c_tree.specs.declared.token.TokenKind.{TokenKind}
 use Rattle.c_tree.specs.declared.token.TokenKind.TheVariants as k
-use Rattle.c_tree.specs.declared.expression.Level.{Level}
-use Rattle.c_tree.specs.declared.expression.Expr.{Expr, out-Expr, roll-Expr, out-roll-Expr}
+use Rattle.c_tree.specs.declared.expression.Expr.{Expr, out-Expr, out-roll-Expr}
 use Rattle.c_tree.specs.declared.expression.Expr.TheVariants as expr
 use Rattle.c_tree.specs.declared.expression.Prefix.{Prefix, out-Prefix}
-use Rattle.c_tree.specs.declared.expression.Next.{Next, out-Next}
+use Rattle.c_tree.specs.declared.expression.Next.{Next}
 use Rattle.c_tree.specs.declared.declarator.DeclaratorSuffix.TheOpen.{Expr-F}
-use Rattle.c_tree.specs.Spelling.Tokens.{joined}
 use Rattle.c_tree.specs.Spelling.Trees.{expr_spelling, next_spelling, expr_spelling-Assign}
 use Rattle.c_tree.specs.Levels.Names.{Names, in_row}
-use Rattle.c_tree.specs.Levels.Productions.{primary, postfix, prefixed, unary, cast, or, conditional, assignment, comma, none, joins}
-use Rattle.c_tree.specs.Levels.Facts.{filled, where_good, same, targets, Operand}
+use Rattle.c_tree.specs.Levels.Productions.{postfix, unary, cast, conditional, assignment, none, joins}
+use Rattle.c_tree.specs.Levels.Facts.{same, targets, Operand}
 use Rattle.c_tree.specs.Levels.Trees.{expr_level, next_level, next_level-is, expr_level-Assign}
-use Rattle.c_tree.specs.Nesting.OfTrees.{deepest}
 use Rattle.c_tree.specs.Nesting.Trees.{expr_nesting, next_nesting, expr_nesting-Assign}
-use Rattle.c_grammar.specs.Input.{Tokens, State, Parser, ◌>>=◌, pure, peek, joins_with, goes, many_by}
+use Rattle.c_grammar.specs.Input.{Tokens, Parser, peek, joins_with, goes, many_by}
 use Rattle.c_grammar.specs.Read.Nodes.{with_targets, is_unary, is_unary_layer, begins_cast, is_cast}
 use Rattle.c_grammar.specs.Read.Expressions.{after_operator, goes_assign, last_unary, assigned_by}
-use Rattle.c_grammar.specs.Ending.OfTrees.{Ending, last, run_target}
-use Rattle.c_grammar.specs.Ending.Trees.{expr_ending, next_ending, prefix_ending, expr_ending-Name, expr_ending-Number, expr_ending-Char, expr_ending-Strings, expr_ending-Paren, expr_ending-Postfix, expr_ending-SizeofType, expr_ending-Prefixed, expr_ending-Binary, expr_ending-Conditional, expr_ending-Assign, prefix_ending-Operator, prefix_ending-Sizeof, prefix_ending-Cast}
+use Rattle.c_grammar.specs.Ending.OfTrees.{Ending, run_target}
+use Rattle.c_grammar.specs.Ending.Trees.{expr_ending, prefix_ending, expr_ending-Name, expr_ending-Number, expr_ending-Char, expr_ending-Strings, expr_ending-Paren, expr_ending-Postfix, expr_ending-SizeofType, expr_ending-Prefixed, expr_ending-Binary, expr_ending-Conditional, expr_ending-Assign, prefix_ending-Operator, prefix_ending-Sizeof, prefix_ending-Cast}
 use Rattle.c_grammar.specs.Laws.Form.{Form, Exact, Split, Joint, joint_exact, same_exact, two}
-use Rattle.c_grammar.specs.Laws.Lists.{Items, Kept, all_good, all_added, all_stop, chain, chain_exact, last_of, left, stop_goes, stop_last, stop_made, added_in_row}
+use Rattle.c_grammar.specs.Laws.Lists.{Items, Kept, all_good, chain, chain_exact, last_of, left, stop_goes, stop_last, stop_made, added_in_row}
 use Rattle.c_grammar.specs.Laws.Cases.{ExprShape, expr_shape, PrefixShape, prefix_shape}
-use Rattle.c_grammar.specs.Laws.Behind.{goes_by, goes_on, expr_form, both_true, both_are, nat_le-true, nat_le-is, nat_le-not, same-true, same-itself, same-false, good_of, where_is, goes_end, next_level as next_production, no_goes}
+use Rattle.c_grammar.specs.Laws.Behind.{goes_on, expr_form, both_true, both_are, nat_le-true, nat_le-is, nat_le-not, same-true, same-itself, same-false, good_of, where_is, goes_end, next_level as next_production, no_goes}
 use Rattle.c_grammar.specs.Laws.Numbers.{shape_number, level_number, number_within, tighter, level_low}
 use Rattle.c_grammar.specs.Laws.Levels.{flat}
-use Rattle.c_grammar.specs.Laws.Operators.{operand_of, operator_of, next_form, next_exact, next_goes, goes_next, before_next, some_next, last_ending}
+use Rattle.c_grammar.specs.Laws.Operators.{operand_of, operator_of, next_exact, next_goes, goes_next, before_next, some_next, last_ending}
 
 -- ---- which expressions are unary
 
@@ -120,14 +117,14 @@ no_assign e true names rest t h = no_goes assignment e names rest (omega arith) 
 
 abbrev pub target_items : Items Bool Next
 target_items = record {
-    spell = next_spelling;
-    good = λ u names n. (u ≡ true) × ((joins (operator_of n).punct ≡ assignment) × ((expr_level (operand_of n) names).0 ≤ conditional));
-    adds = λ names n. (next_level n names).1;
-    nest = next_nesting;
-    stop = λ n names rest. conditional < goes_on (expr_ending (operand_of n)) (peek rest);
-    goes = goes_assign;
-    step = last_unary;
-  }
+  spell = next_spelling;
+  good = λ u names n. (u ≡ true) × ((joins (operator_of n).punct ≡ assignment) × ((expr_level (operand_of n) names).0 ≤ conditional));
+  adds = λ names n. (next_level n names).1;
+  nest = next_nesting;
+  stop = λ n names rest. conditional < goes_on (expr_ending (operand_of n)) (peek rest);
+  goes = goes_assign;
+  step = last_unary;
+}
 
 flat_is : (n : ℕ) → max 0 (flat n) ≡ flat n
 flat_is n = omega arith
@@ -156,7 +153,7 @@ targets_told a u names (n ∷ ns) e low g =
     let o : (next_level n names).0 ≡ ((operator_of n).punct, (expr_level (operand_of n) names).0) = ap (λ f. (f names).0) (next_level-is n) in
     let rest = targets_told (expr_level (operand_of n) names).0 (is_unary (operand_of n)) (names ++ (next_level n names).1) ns (unary_is (operand_of n) names g.0.1.1) g.0.1.1 g.1 in
     both_are _ _ (sym e ∙ g.0.0) (both_are _ _ (ap (λ (f : Operand). same (joins f.0) assignment) o ∙ subst (λ m. same (joins (operator_of n).punct) m ≡ true) g.0.1.0 (same-itself (joins (operator_of n).punct)))
-      (ap (λ (f : Operand). targets f.1 (in_row (map next_level ns) (names ++ (next_level n names).1)).0) o ∙ rest))
+    (ap (λ (f : Operand). targets f.1 (in_row (map next_level ns) (names ++ (next_level n names).1)).0) o ∙ rest))
 
 targets_are : (a : ℕ) (u : Bool) (names : Names) (ns : List Next) → u ≡ nat_le a unary → targets a (in_row (map next_level ns) names).0 ≡ true → all_good target_items u names ns
 targets_are a u names [] e h = tt
@@ -165,10 +162,11 @@ targets_are a u names (n ∷ ns) e h =
     let b = both_true (nat_le a unary) _ h in
     let c = both_true (same (joins (next_level n names).0.0) assignment) _ b.1 in
     let rest : targets (expr_level (operand_of n) names).0 (in_row (map next_level ns) (names ++ (next_level n names).1)).0 ≡ true =
-          sym (ap (λ (f : Operand). targets f.1 (in_row (map next_level ns) (names ++ (next_level n names).1)).0) o) ∙ c.1 in
-    let low = targets_low (expr_level (operand_of n) names).0 _ rest in
-    ((e ∙ b.0, (same-true (joins (operator_of n).punct) assignment (sym (ap (λ (f : Operand). same (joins f.0) assignment) o) ∙ c.0), low)),
-      targets_are (expr_level (operand_of n) names).0 (is_unary (operand_of n)) (names ++ (next_level n names).1) ns (unary_is (operand_of n) names low) rest)
+    sym (ap (λ (f : Operand). targets f.1 (in_row (map next_level ns) (names ++ (next_level n names).1)).0) o) ∙ c.1 in
+    let low = targets_low (expr_level (operand_of n) names).0 _ rest in (
+      (e ∙ b.0, (same-true (joins (operator_of n).punct) assignment (sym (ap (λ (f : Operand). same (joins f.0) assignment) o) ∙ c.0), low)),
+      targets_are (expr_level (operand_of n) names).0 (is_unary (operand_of n)) (names ++ (next_level n names).1) ns (unary_is (operand_of n) names low) rest,
+    )
 
 -- ---- assignments
 
@@ -252,19 +250,19 @@ assign_from_stop names a (n ∷ ns) behind rest g h =
 
 assign_joint : Joint assign_form (λ t. with_targets t.0 t.1) (expr_form assignment)
 assign_joint = record {
-    good = λ names t g. assign_good names t.0 t.1 g;
-    split = λ names x g. assign_split (expr_shape x) names g;
-    nested = λ t. assign_nested t.0 t.1;
-    spelt = λ t. assign_spelt t.0 t.1;
-    seen = λ names t. assign_seen names t.0 t.1;
-    stop = λ names t behind rest g h. assign_stop names t.0 t.1 behind rest g h;
-    from_stop = λ names t behind rest g h. assign_from_stop names t.0 t.1 behind rest g h;
-  }
+  good = λ names t g. assign_good names t.0 t.1 g;
+  split = λ names x g. assign_split (expr_shape x) names g;
+  nested = λ t. assign_nested t.0 t.1;
+  spelt = λ t. assign_spelt t.0 t.1;
+  seen = λ names t. assign_seen names t.0 t.1;
+  stop = λ names t behind rest g h. assign_stop names t.0 t.1 behind rest g h;
+  from_stop = λ names t behind rest g h. assign_from_stop names t.0 t.1 behind rest g h;
+}
 
 pub assigned_exact : (more : ℕ) (operand : Parser Expr) → Exact (expr_form conditional) more operand → Exact (expr_form assignment) more (assigned_by operand)
 unfolding assigned_by
 assigned_exact more operand exact =
     same_exact (expr_form assignment) more _ (assigned_by operand) (two operand (λ first. many_by goes_assign (λ _. after_operator operand) last_unary (is_unary first)) with_targets)
     (joint_exact assign_form (λ t. with_targets t.0 t.1) (expr_form assignment) more _
-      (chain_exact (expr_form conditional) target_items is_unary more operand (λ u. after_operator operand) exact (targets_kept more operand exact)
-        (λ names a n rest g h st. before_next conditional assignment (expr_ending a) n rest (omega arith) h.1.0)) assign_joint)
+    (chain_exact (expr_form conditional) target_items is_unary more operand (λ u. after_operator operand) exact (targets_kept more operand exact)
+    (λ names a n rest g h st. before_next conditional assignment (expr_ending a) n rest (omega arith) h.1.0)) assign_joint)

@@ -1,5 +1,5 @@
 -- What goes on with an expression, and the form of the expressions of a production.
-use Rattle.std.specs.Prelude.{◌≡◌, ℕ, zero, suc, ◌+◌, ◌≤◌, ◌<◌, max, Bool, true, false, not, ◌&&◌, ◌||◌, if◌then◌else◌, nat_le, List, [], ◌∷◌, ◌++◌, map, Option, Some, None, refl}
+use Rattle.std.specs.Prelude.{◌≡◌, ℕ, ◌+◌, ◌≤◌, ◌<◌, Bool, true, false, not, ◌&&◌, if◌then◌else◌, nat_le, [], ◌∷◌, Option, Some, None, refl}
 use Rattle.std.proofs.Common.{ap, sym, ◌∙◌, subst, cond, arith}
 use Rattle.std.proofs.lemmas.Bool.Decides.{nat_tests}
 use Rattle.c_tree.specs.declared.token.Pos.{Pos}
@@ -7,7 +7,6 @@ use Rattle.c_tree.specs.declared.token.Punct.{Punct}
 use Rattle.c_tree.specs.declared.token.Punct.TheVariants as p
 use Rattle.c_tree.specs.declared.token.TokenKind.{TokenKind}
 use Rattle.c_tree.specs.declared.token.TokenKind.TheVariants as k
-use Rattle.c_tree.specs.declared.token.Token.{Token}
 use Rattle.c_tree.specs.declared.expression.Expr.{Expr}
 use Rattle.c_tree.specs.Spelling.Tokens.{punct}
 use Rattle.c_tree.specs.Spelling.Trees.{expr_spelling}
@@ -16,7 +15,7 @@ use Rattle.c_tree.specs.Levels.Productions.{primary, postfix, prefixed, cast, as
 use Rattle.c_tree.specs.Levels.Facts.{same, where_good}
 use Rattle.c_tree.specs.Levels.Trees.{expr_level}
 use Rattle.c_tree.specs.Nesting.Trees.{expr_nesting}
-use Rattle.c_grammar.specs.Input.{Tokens, State, peek, joins_with, goes}
+use Rattle.c_grammar.specs.Input.{Tokens, peek, joins_with, goes}
 use Rattle.c_grammar.specs.Ending.OfTrees.{Ending}
 use Rattle.c_grammar.specs.Ending.Trees.{expr_ending}
 use Rattle.c_grammar.specs.Laws.Form.{Form}
@@ -33,12 +32,12 @@ goes_on e _ = none
 -- expressions of a production; what stands behind goes on with none that is as tight
 abbrev pub expr_form : ℕ → Form Expr
 expr_form within = record {
-    spell = expr_spelling;
-    good = λ names x. (expr_level x names).0 ≤ within;
-    adds = λ names x. (expr_level x names).1;
-    nest = expr_nesting;
-    stop = λ x names rest. within < goes_on (expr_ending x) (peek rest);
-  }
+  spell = expr_spelling;
+  good = λ names x. (expr_level x names).0 ≤ within;
+  adds = λ names x. (expr_level x names).1;
+  nest = expr_nesting;
+  stop = λ x names rest. within < goes_on (expr_ending x) (peek rest);
+}
 
 -- ---- truth
 

@@ -7,7 +7,6 @@ use Rattle.c_tree.specs.declared.token.IntKind.{IntKind}
 use Rattle.c_tree.specs.declared.expression.Level.{Level}
 use Rattle.c_tree.specs.declared.expression.Literal.{Literal}
 use Rattle.c_tree.specs.declared.expression.Mark.{Mark}
-use Rattle.c_tree.specs.declared.declarator.Pointer.{Pointer}
 use Rattle.c_tree.specs.declared.token.Pos.{Pos}
 use Rattle.c_tree.specs.declared.specifier.Storage.{Storage}
 use Rattle.c_tree.specs.declared.specifier.TypeWord.{TypeWord}
@@ -31,7 +30,6 @@ use Rattle.c_tree.specs.declared.expression.Branch.{Branch}
 use Rattle.c_tree.specs.declared.expression.Next.{Next}
 use Rattle.c_tree.specs.declared.expression.TypeName.{TypeName}
 use Rattle.c_tree.specs.declared.specifier.Member.{Member}
-use Rattle.c_tree.specs.declared.specifier.MemberDeclarator.{MemberDeclarator}
 use Rattle.c_tree.specs.declared.declarator.DeclaratorSuffix.TheOpen.{DeclaratorSuffix-F, Direct-F, Expr-F, Prefix-F, Suffix-F, Enumerator-F, Specifier-F}
 use Rattle.c_tree.specs.Layers.{DeclaratorSuffixLayer, DirectLayer, ExprLayer, PrefixLayer, SuffixLayer, EnumeratorLayer, SpecifierLayer}
 

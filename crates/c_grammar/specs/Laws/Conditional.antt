@@ -1,38 +1,31 @@
 -- Conditional expressions and assignments are read exactly (C11 6.5.15, 6.5.16).
-use Rattle.std.specs.Prelude.{◌≡◌, ℕ, zero, suc, ◌+◌, ◌≤◌, ◌<◌, max, Bool, true, false, not, ◌&&◌, ◌||◌, if◌then◌else◌, nat_le, List, [], ◌∷◌, ◌++◌, length, map, Option, Some, None, Ok, refl}
-use Rattle.std.proofs.Common.{ap, sym, ◌∙◌, subst, cond, arith, append_assoc, append-nil, ◌⊎◌, inl, inr}
-use denote.Hole.Carrier.{out}
+use Rattle.std.specs.Prelude.{◌≡◌, ℕ, ◌≤◌, ◌<◌, Bool, true, false, ◌&&◌, if◌then◌else◌, nat_le, List, [], ◌∷◌, ◌++◌, map, refl}
+use Rattle.std.proofs.Common.{ap, sym, ◌∙◌, subst, arith, append_assoc, append-nil}
 use Rattle.c_tree.specs.declared.token.Pos.{Pos}
-use Rattle.c_tree.specs.declared.token.Punct.{Punct}
 use Rattle.c_tree.specs.declared.token.Punct.TheVariants as p
-use Rattle.c_tree.specs.declared.expression.Expr.{Expr, out-Expr}
+use Rattle.c_tree.specs.declared.expression.Expr.{Expr}
 use Rattle.c_tree.specs.declared.expression.Expr.TheVariants as expr
-use Rattle.c_tree.specs.declared.expression.Prefix.{Prefix, out-Prefix}
 use Rattle.c_tree.specs.declared.expression.Branch.{Branch, out-Branch, roll-Branch, roll-out-Branch}
-use Rattle.c_tree.specs.declared.expression.Next.{Next}
-use Rattle.c_tree.specs.Spelling.Tokens.{punct, joined}
-use Rattle.c_tree.specs.Spelling.Trees.{expr_spelling, branch_spelling, next_spelling, branch_spelling-is, expr_spelling-Conditional, expr_spelling-Assign}
+use Rattle.c_tree.specs.Spelling.Tokens.{punct}
+use Rattle.c_tree.specs.Spelling.Trees.{expr_spelling, branch_spelling, branch_spelling-is, expr_spelling-Conditional}
 use Rattle.c_tree.specs.Levels.Names.{Names, in_row}
-use Rattle.c_tree.specs.Levels.Productions.{primary, postfix, prefixed, unary, cast, or, conditional, assignment, comma, none, joins}
-use Rattle.c_tree.specs.Levels.Facts.{filled, all_good as all_true, where_good, targets, Operand}
-use Rattle.c_tree.specs.Levels.Trees.{expr_level, branch_level, next_level, next_level-is, branch_level-is, expr_level-Conditional, expr_level-Assign}
-use Rattle.c_tree.specs.Nesting.OfTrees.{deepest}
-use Rattle.c_tree.specs.Nesting.Trees.{expr_nesting, branch_nesting, next_nesting, branch_nesting-is, expr_nesting-Conditional, expr_nesting-Assign}
-use Rattle.c_grammar.specs.Input.{Tokens, State, Parser, ◌>>=◌, pure, peek, goes, one, expect, opening, many, many_by}
-use Rattle.c_grammar.specs.Read.Nodes.{with_branches, with_targets, is_unary, begins_cast, is_cast}
+use Rattle.c_tree.specs.Levels.Productions.{unary, cast, or, conditional, comma}
+use Rattle.c_tree.specs.Levels.Facts.{all_good as all_true}
+use Rattle.c_tree.specs.Levels.Trees.{expr_level, branch_level, branch_level-is, expr_level-Conditional}
+use Rattle.c_tree.specs.Nesting.Trees.{expr_nesting, branch_nesting, branch_nesting-is, expr_nesting-Conditional}
+use Rattle.c_grammar.specs.Input.{Tokens, peek, goes, expect, opening, many}
+use Rattle.c_grammar.specs.Read.Nodes.{with_branches, begins_cast}
 use Rattle.c_grammar.specs.Read.Inner.{Inner}
-use Rattle.c_grammar.specs.Read.Expressions.{after_operator, goes_assign, last_unary, assigned_by, branch, conditional as read_conditional, or as read_or}
+use Rattle.c_grammar.specs.Read.Expressions.{branch, conditional as read_conditional, or as read_or}
 use Rattle.c_grammar.specs.Ending.OfTrees.{Ending, last, no_target}
-use Rattle.c_grammar.specs.Ending.Trees.{expr_ending, branch_ending, next_ending, branch_ending-is, next_ending-is, expr_ending-Conditional, expr_ending-Assign}
-use Rattle.c_grammar.specs.Laws.Form.{Form, Exact, Node, Image, Split, Joint, only, both, seq, seq_exact, node_exact, joint_exact, same_exact, whole_exact, two, four}
-use Rattle.c_grammar.specs.Laws.Lists.{Items, Kept, all_good, all_added, all_stop, chain, chain_exact, last_of, left, stop_goes, stop_last, stop_made, added_in_row}
-use Rattle.c_grammar.specs.Laws.Single.{opening_form, mark_form}
-use Rattle.c_grammar.specs.Laws.Rows.{pre, post, deeper, bracketed, bracketed_exact}
+use Rattle.c_grammar.specs.Ending.Trees.{expr_ending, branch_ending, branch_ending-is, expr_ending-Conditional}
+use Rattle.c_grammar.specs.Laws.Form.{Form, Exact, Node, Image, Split, Joint, only, seq, seq_exact, node_exact, joint_exact, same_exact, whole_exact, two, four}
+use Rattle.c_grammar.specs.Laws.Lists.{Items, Kept, all_good, chain, chain_exact, last_of, stop_goes, stop_last, stop_made, added_in_row}
+use Rattle.c_grammar.specs.Laws.Rows.{deeper, bracketed, bracketed_exact}
 use Rattle.c_grammar.specs.Laws.Cases.{ExprShape, expr_shape}
-use Rattle.c_grammar.specs.Laws.Behind.{goes_on, expr_form, both_true, both_are, nat_le-true, nat_le-is, good_of, where_is, before_mark, goes_mark, mark_goes, goes_end, next_level as next_production, no_goes, no_goes_level}
+use Rattle.c_grammar.specs.Laws.Behind.{goes_on, expr_form, both_true, both_are, nat_le-true, nat_le-is, good_of, where_is, before_mark, goes_mark, goes_end, next_level as next_production, no_goes_level}
 use Rattle.c_grammar.specs.Laws.Numbers.{shape_number, number_within, tighter, level_low}
-use Rattle.c_grammar.specs.Laws.Levels.{flat, no_target_to, no_target_from}
-use Rattle.c_grammar.specs.Laws.Operators.{operand_of, operator_of, next_form, next_exact, next_goes, goes_next, before_next, some_next}
+use Rattle.c_grammar.specs.Laws.Levels.{no_target_to, no_target_from}
 
 -- ---- a branch: `?`, what it gives, `:` and an operand
 
@@ -45,25 +38,25 @@ branch_of t = roll-Branch (record { question = t.0.0.0; gives = t.0.0.1; colon =
 
 abbrev branch_form : Form Branch
 branch_form = record {
-    spell = branch_spelling;
-    good = λ names b. (branch_level b names).0 ≡ true;
-    adds = λ names b. (branch_level b names).1;
-    nest = branch_nesting;
-    stop = λ b names rest. or < goes_on (expr_ending (out-Branch b).operand) (peek rest);
-  }
+  spell = branch_spelling;
+  good = λ names b. (branch_level b names).0 ≡ true;
+  adds = λ names b. (branch_level b names).1;
+  nest = branch_nesting;
+  stop = λ b names rest. or < goes_on (expr_ending (out-Branch b).operand) (peek rest);
+}
 
 branch_node : Node branch_parts branch_of branch_form
 branch_node = record {
-    good = λ names t g. ap (λ f. (f names).0) (branch_level-is (branch_of t)) ∙ both_are _ _ (nat_le-is (expr_level t.0.0.1 names).0 comma g.0.0.1) (nat_le-is (expr_level t.1 (names ++ (expr_level t.0.0.1 names).1)).0 or g.1);
-    parts = λ names t g.
-        let b = both_true (nat_le (expr_level t.0.0.1 names).0 comma) _ (sym (ap (λ f. (f names).0) (branch_level-is (branch_of t))) ∙ g) in
-        (((tt, nat_le-true (expr_level t.0.0.1 names).0 comma b.0), tt), nat_le-true (expr_level t.1 (names ++ (expr_level t.0.0.1 names).1)).0 or b.1);
-    nested = λ t. branch_nesting-is (branch_of t) ∙ omega arith;
-    spelt = λ t. branch_spelling-is (branch_of t) ∙ ap (λ l. punct p.Question t.0.0.0 ∷ l) (sym (append_assoc (expr_spelling t.0.0.1) (punct p.Colon t.0.1 ∷ []) (expr_spelling t.1)));
-    seen = λ names t. ap (λ f. (f names).1) (branch_level-is (branch_of t));
-    stop = λ names t behind rest g h. h;
-    from_stop = λ names t behind rest g h. h;
-  }
+  good = λ names t g. ap (λ f. (f names).0) (branch_level-is (branch_of t)) ∙ both_are _ _ (nat_le-is (expr_level t.0.0.1 names).0 comma g.0.0.1) (nat_le-is (expr_level t.1 (names ++ (expr_level t.0.0.1 names).1)).0 or g.1);
+  parts = λ names t g.
+      let b = both_true (nat_le (expr_level t.0.0.1 names).0 comma) _ (sym (ap (λ f. (f names).0) (branch_level-is (branch_of t))) ∙ g) in
+      (((tt, nat_le-true (expr_level t.0.0.1 names).0 comma b.0), tt), nat_le-true (expr_level t.1 (names ++ (expr_level t.0.0.1 names).1)).0 or b.1);
+  nested = λ t. branch_nesting-is (branch_of t) ∙ omega arith;
+  spelt = λ t. branch_spelling-is (branch_of t) ∙ ap (λ l. punct p.Question t.0.0.0 ∷ l) (sym (append_assoc (expr_spelling t.0.0.1) (punct p.Colon t.0.1 ∷ []) (expr_spelling t.1)));
+  seen = λ names t. ap (λ f. (f names).1) (branch_level-is (branch_of t));
+  stop = λ names t behind rest g h. h;
+  from_stop = λ names t behind rest g h. h;
+}
 
 branch_exact : (more : ℕ) (inner : Inner) → Exact (deeper (expr_form comma)) more (inner.expr comma) → Exact (expr_form or) more (read_or more inner) → Exact branch_form more (branch more inner)
 unfolding branch
@@ -71,17 +64,22 @@ branch_exact more inner exact ors =
     whole_exact (Image branch_of) branch_form more (branch more inner)
     (λ names b g. (((((out-Branch b).question, (out-Branch b).gives), (out-Branch b).colon), (out-Branch b).operand), roll-out-Branch b))
     (same_exact (only (Image branch_of) branch_form) more _ (branch more inner)
-      (four (opening more p.Question) (λ q. inner.expr comma) (λ q g. expect p.Colon) (λ q g c. read_or more inner) (λ q g c o. roll-Branch (record { question = q; gives = g; colon = c; operand = o })))
-      (node_exact branch_parts branch_of branch_form more _
-        (seq_exact (bracketed p.Question (deeper (expr_form comma)) p.Colon) (λ t. expr_form or) more _ (λ t. read_or more inner)
-          (bracketed_exact p.Question (deeper (expr_form comma)) p.Colon more (inner.expr comma) exact (λ names x at rest g. before_mark comma (expr_ending x) p.Colon at rest (omega arith)))
-          (λ t. ors) (λ names a b rest g h st. tt)) branch_node))
+    (four (opening more p.Question) (λ q. inner.expr comma) (λ q g. expect p.Colon) (λ q g c. read_or more inner) (λ q g c o. roll-Branch (record { question = q; gives = g; colon = c; operand = o })))
+    (node_exact branch_parts branch_of branch_form more _
+    (seq_exact (bracketed p.Question (deeper (expr_form comma)) p.Colon) (λ t. expr_form or) more _ (λ t. read_or more inner)
+    (bracketed_exact p.Question (deeper (expr_form comma)) p.Colon more (inner.expr comma) exact (λ names x at rest g. before_mark comma (expr_ending x) p.Colon at rest (omega arith)))
+    (λ t. ors) (λ names a b rest g h st. tt)) branch_node))
 
 abbrev pub branch_items : Items (Unit {0}) Branch
 branch_items = record {
-    spell = branch_spelling; good = λ s. branch_form.good; adds = branch_form.adds; nest = branch_nesting; stop = branch_form.stop;
-    goes = λ s. goes conditional; step = λ s b. tt
-  }
+  spell = branch_spelling;
+  good = λ s. branch_form.good;
+  adds = branch_form.adds;
+  nest = branch_nesting;
+  stop = branch_form.stop;
+  goes = λ s. goes conditional;
+  step = λ s b. tt;
+}
 
 branch_goes : (names : Names) (b : Branch) (rest : Tokens) → goes conditional (names, branch_spelling b ++ rest) ≡ true
 branch_goes names b rest = ap (λ l. goes conditional (names, l ++ rest)) (branch_spelling-is b) ∙ goes_mark conditional names p.Question (out-Branch b).question _ refl
@@ -92,13 +90,13 @@ before_branch within e b rest low =
 
 branches_kept : (more : ℕ) (inner : Inner) → Exact (deeper (expr_form comma)) more (inner.expr comma) → Exact (expr_form or) more (read_or more inner) → Kept branch_items more (λ s. branch more inner)
 branches_kept more inner exact ors = record {
-    sound = λ s names ts x end go h. (branch_exact more inner exact ors).sound names ts x end h;
-    complete = λ s names x rest g n st. (branch_exact more inner exact ors).complete names x rest g n st;
-    starts = λ s names x rest g st. branch_goes names x rest;
-    ends = λ s names. goes_end conditional names (omega arith);
-    follows = λ s names x y rest g h st. before_branch or (expr_ending (out-Branch x).operand) y rest (omega arith);
-    some = λ s names x g. rw (branch_spelling-is x) (omega arith);
-  }
+  sound = λ s names ts x end go h. (branch_exact more inner exact ors).sound names ts x end h;
+  complete = λ s names x rest g n st. (branch_exact more inner exact ors).complete names x rest g n st;
+  starts = λ s names x rest g st. branch_goes names x rest;
+  ends = λ s names. goes_end conditional names (omega arith);
+  follows = λ s names x y rest g h st. before_branch or (expr_ending (out-Branch x).operand) y rest (omega arith);
+  some = λ s names x g. rw (branch_spelling-is x) (omega arith);
+}
 
 -- ---- conditional expressions
 
@@ -173,7 +171,7 @@ conditional_stop a (x ∷ xs) behind rest h =
     let own = stop_last branch_items tt x xs behind rest h in
     let more = stop_goes branch_items tt (x ∷ xs) behind rest h in
     subst (λ e. conditional < goes_on e (peek rest)) (sym (expr_ending-Conditional a (x ∷ xs))) (no_target_to conditional _ (peek rest) (omega arith)
-      (subst (λ e. conditional < goes_on e (peek rest)) (sym (branch_last (expr_ending a) x xs)) (next_production or conditional (expr_ending (out-Branch (last_of branch_items x xs)).operand) (peek rest) (omega arith) (omega arith) own more)))
+    (subst (λ e. conditional < goes_on e (peek rest)) (sym (branch_last (expr_ending a) x xs)) (next_production or conditional (expr_ending (out-Branch (last_of branch_items x xs)).operand) (peek rest) (omega arith) (omega arith) own more)))
 
 conditional_from_stop : (a : Expr) (xs : List Branch) (behind : Names) (rest : Tokens) → conditional < goes_on (expr_ending (with_branches a xs)) (peek rest) → conditional_form.stop (a, xs) behind rest
 conditional_from_stop a [] behind rest h = (omega arith, no_goes_level conditional (expr_ending a) behind rest (omega arith) (λ e. omega arith) (omega arith) h)
@@ -184,19 +182,19 @@ conditional_from_stop a (x ∷ xs) behind rest h =
 
 conditional_joint : Joint conditional_form (λ t. with_branches t.0 t.1) (expr_form conditional)
 conditional_joint = record {
-    good = λ names t g. conditional_good names t.0 t.1 g;
-    split = λ names x g. conditional_split (expr_shape x) names g;
-    nested = λ t. conditional_nested t.0 t.1;
-    spelt = λ t. conditional_spelt t.0 t.1;
-    seen = λ names t. conditional_seen names t.0 t.1;
-    stop = λ names t behind rest g h. conditional_stop t.0 t.1 behind rest h;
-    from_stop = λ names t behind rest g h. conditional_from_stop t.0 t.1 behind rest h;
-  }
+  good = λ names t g. conditional_good names t.0 t.1 g;
+  split = λ names x g. conditional_split (expr_shape x) names g;
+  nested = λ t. conditional_nested t.0 t.1;
+  spelt = λ t. conditional_spelt t.0 t.1;
+  seen = λ names t. conditional_seen names t.0 t.1;
+  stop = λ names t behind rest g h. conditional_stop t.0 t.1 behind rest h;
+  from_stop = λ names t behind rest g h. conditional_from_stop t.0 t.1 behind rest h;
+}
 
 pub conditional_exact : (more : ℕ) (inner : Inner) → Exact (deeper (expr_form comma)) more (inner.expr comma) → Exact (expr_form or) more (read_or more inner) → Exact (expr_form conditional) more (read_conditional more inner)
 unfolding read_conditional
 conditional_exact more inner exact ors =
     same_exact (expr_form conditional) more _ (read_conditional more inner) (two (read_or more inner) (λ a. many (goes conditional) (branch more inner)) with_branches)
     (joint_exact conditional_form (λ t. with_branches t.0 t.1) (expr_form conditional) more _
-      (chain_exact (expr_form or) branch_items (λ a. tt) more (read_or more inner) (λ s. branch more inner) ors (branches_kept more inner exact ors)
-        (λ names a x rest g h st. before_branch or (expr_ending a) x rest (omega arith))) conditional_joint)
+    (chain_exact (expr_form or) branch_items (λ a. tt) more (read_or more inner) (λ s. branch more inner) ors (branches_kept more inner exact ors)
+    (λ names a x rest g h st. before_branch or (expr_ending a) x rest (omega arith))) conditional_joint)

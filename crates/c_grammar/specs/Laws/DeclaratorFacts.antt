@@ -1,8 +1,7 @@
 -- The first token of a declarator, and what is told of it.
-use Rattle.std.specs.Prelude.{◌≡◌, ℕ, ◌+◌, ◌≤◌, max, Bool, true, false, not, ◌&&◌, ◌||◌, List, [], ◌∷◌, ◌++◌, map, Option, Some, None, is_some, is_none, refl}
-use Rattle.std.proofs.Common.{ap, sym, ◌∙◌, subst, cond, arith, append_assoc, append-nil, ◌⊎◌, inl, inr}
+use Rattle.std.specs.Prelude.{◌≡◌, ℕ, Bool, true, false, not, ◌&&◌, List, [], ◌∷◌, ◌++◌, map, Some, is_some, is_none, refl}
+use Rattle.std.proofs.Common.{ap, sym, ◌∙◌, subst, append-nil}
 use denote.Hole.Carrier.{out}
-use Rattle.c_tree.specs.declared.token.Pos.{Pos}
 use Rattle.c_tree.specs.declared.token.Punct.{Punct}
 use Rattle.c_tree.specs.declared.token.Punct.TheVariants as p
 use Rattle.c_tree.specs.declared.token.Token.{Token}
@@ -13,21 +12,18 @@ use Rattle.c_tree.specs.declared.declarator.Declarator.{Declarator, out-Declarat
 use Rattle.c_tree.specs.declared.declarator.Direct.{Direct, out-Direct}
 use Rattle.c_tree.specs.declared.declarator.Direct.TheVariants as direct
 use Rattle.c_tree.specs.declared.declarator.DeclaratorSuffix.{DeclaratorSuffix}
-use Rattle.c_tree.specs.declared.declarator.DeclaratorSuffix.TheVariants as suffix
-use Rattle.c_tree.specs.Spelling.Tokens.{punct, name as name_token, joined, consts, pointers as pointers_spelling}
+use Rattle.c_tree.specs.Spelling.Tokens.{punct, name as name_token, joined, pointers as pointers_spelling}
 use Rattle.c_tree.specs.Spelling.Trees.{declarator_spelling, direct_spelling, declarator_suffix_spelling, declarator_spelling-is, direct_spelling-Nothing, direct_spelling-Named, direct_spelling-Grouped, declarator_suffix_spelling-Array, declarator_suffix_spelling-ArrayOf, declarator_suffix_spelling-Empty, declarator_suffix_spelling-Void, declarator_suffix_spelling-Parameters}
 use Rattle.c_tree.specs.Levels.Names.{Names, is_typedef_name, in_row}
-use Rattle.c_tree.specs.Levels.Facts.{filled, Use, Declaring, Abstract, Parameter, declares, DeclaratorFacts, SuffixFacts, suffixes_good, nearest}
+use Rattle.c_tree.specs.Levels.Facts.{filled, Use, Declaring, Abstract, Parameter, declares, suffixes_good}
 use Rattle.c_tree.specs.Levels.Trees.{declarator_level, direct_level, declarator_suffix_level, declarator_level-is, direct_level-Nothing, direct_level-Named, direct_level-Grouped}
-use Rattle.c_grammar.specs.Punctuators.{same_mark}
-use Rattle.c_grammar.specs.Input.{Tokens, State, peek, is_mark, sees}
+use Rattle.c_grammar.specs.Input.{Tokens, peek}
 use Rattle.c_grammar.specs.Read.Nodes.{is_nothing, is_nothing_layer}
-use Rattle.c_grammar.specs.Read.Inner.{begins_specifier, begins_parameters}
+use Rattle.c_grammar.specs.Read.Inner.{begins_parameters}
 use Rattle.c_grammar.specs.Laws.Cases.{DirectShape, direct_shape, DeclaratorSuffixShape, declarator_suffix_shape}
-use Rattle.c_grammar.specs.Laws.Behind.{both_true, both_are}
+use Rattle.c_grammar.specs.Laws.Behind.{both_true}
 use Rattle.c_grammar.specs.Laws.Starts.{Begins, peek_first}
 use Rattle.c_grammar.specs.Laws.Forms.{is_no_name}
-use Rattle.c_grammar.specs.Laws.Pointers.{pointers_spelt}
 
 -- ---- suffixes
 

@@ -1,6 +1,6 @@
 -- Arrays, parameter lists and declarators are read exactly (C11 6.7.6).
-use Rattle.std.specs.Prelude.{◌≡◌, ℕ, ◌+◌, ◌≤◌, ◌<◌, max, Bool, true, false, not, ◌&&◌, ◌||◌, if◌then◌else◌, nat_le, List, [], ◌∷◌, ◌++◌, length, map, Option, Some, None, is_some, Ok, refl}
-use Rattle.std.proofs.Common.{ap, sym, ◌∙◌, subst, cond, arith, append_assoc, append-nil, ◌⊎◌, inl, inr}
+use Rattle.std.specs.Prelude.{◌≡◌, ℕ, ◌<◌, max, Bool, true, false, not, ◌&&◌, ◌||◌, List, [], ◌∷◌, ◌++◌, length, map, Option, Some, None, is_some, Ok, refl}
+use Rattle.std.proofs.Common.{ap, sym, ◌∙◌, subst, arith, append_assoc, append-nil, ◌⊎◌, inl, inr}
 use Rattle.c_tree.specs.declared.token.Pos.{Pos}
 use Rattle.c_tree.specs.declared.token.Punct.{Punct}
 use Rattle.c_tree.specs.declared.token.Punct.TheVariants as p
@@ -11,7 +11,7 @@ use Rattle.c_tree.specs.declared.token.TokenKind.{TokenKind}
 use Rattle.c_tree.specs.declared.token.TokenKind.TheVariants as k
 use Rattle.c_tree.specs.declared.expression.Expr.{Expr}
 use Rattle.c_tree.specs.declared.declarator.Pointer.{Pointer}
-use Rattle.c_tree.specs.declared.declarator.Declarator.{Declarator, out-Declarator, roll-Declarator, roll-out-Declarator}
+use Rattle.c_tree.specs.declared.declarator.Declarator.{Declarator, roll-Declarator, roll-out-Declarator}
 use Rattle.c_tree.specs.declared.declarator.Direct.{Direct, out-Direct}
 use denote.Hole.Carrier.{out}
 use Rattle.c_tree.specs.declared.declarator.DeclaratorSuffix.{DeclaratorSuffix}
@@ -20,40 +20,39 @@ use Rattle.c_tree.specs.declared.declarator.Parameter.{Parameter as ParameterTre
 use Rattle.c_tree.specs.Spelling.Tokens.{token, punct, keyword, comma_at, joined, name as name_token}
 use Rattle.c_tree.specs.Spelling.Trees.{expr_spelling, specifier_spelling, declarator_spelling, declarator_suffix_spelling, direct_spelling, direct_spelling-Nothing, direct_spelling-Named, direct_spelling-Grouped, parameter_spelling, parameter_spelling-is, declarator_spelling-is, declarator_suffix_spelling-Array, declarator_suffix_spelling-ArrayOf, declarator_suffix_spelling-Empty, declarator_suffix_spelling-Void, declarator_suffix_spelling-Parameters}
 use Rattle.c_tree.specs.Levels.Names.{Names, in_row}
-use Rattle.c_tree.specs.Levels.Productions.{conditional, none}
-use Rattle.c_tree.specs.Levels.Facts.{filled, Use, Declaring, Abstract, Parameter, declares, ParameterFacts, SuffixFacts, suffixes_good, only_void, listed, rest_listed, listed_parameters}
+use Rattle.c_tree.specs.Levels.Productions.{conditional}
+use Rattle.c_tree.specs.Levels.Facts.{Use, Declaring, Abstract, Parameter, declares, suffixes_good, only_void, rest_listed, listed_parameters}
 use Rattle.c_tree.specs.Levels.Trees.{expr_level, declarator_level, declarator_suffix_level, direct_level, direct_level-Nothing, parameter_level, parameter_level-is, declarator_level-is, declarator_suffix_level-Array, declarator_suffix_level-ArrayOf, declarator_suffix_level-Empty, declarator_suffix_level-Void, declarator_suffix_level-Parameters}
-use Rattle.c_tree.specs.Nesting.OfTrees.{deepest}
-use Rattle.c_tree.specs.Nesting.Trees.{declarator_nesting, declarator_suffix_nesting, direct_nesting, parameter_nesting, declarator_nesting-is, declarator_suffix_nesting-Array, declarator_suffix_nesting-ArrayOf, declarator_suffix_nesting-Empty, declarator_suffix_nesting-Void, declarator_suffix_nesting-Parameters}
+use Rattle.c_tree.specs.Nesting.Trees.{declarator_suffix_nesting, parameter_nesting, declarator_nesting-is, declarator_suffix_nesting-Array, declarator_suffix_nesting-ArrayOf, declarator_suffix_nesting-Empty, declarator_suffix_nesting-Void, declarator_suffix_nesting-Parameters}
 use Rattle.c_grammar.specs.Punctuators.{same_mark}
 use Rattle.c_grammar.specs.Input.{Tokens, State, Parser, and_then, ◌>>=◌, pure, choose, peek, behind, is_mark, sees, one, expect, opening, many, enclosed}
 use Rattle.c_grammar.specs.Read.Inner.{Inner, is_void, is_const, begins_parameters}
 use Rattle.c_grammar.specs.Read.Declarators.{takes_name, opens_declarator, void_at, sees_void, pointers as read_pointers, middle, unsized, sized, array, parameter, next_parameter, no_parameters, void_parameters, some_parameters, parameters, goes_suffix, one_suffix, declarator as read_declarator}
-use Rattle.c_grammar.specs.Laws.Form.{Form, Exact, Node, Image, Joint, only, both, map_to, node_exact, same_exact, choose_exact, whole_exact, two, three, bind_same, choose_same, choose_map, open_seq, open_exact, either, either_exact, Guarded, GuardedNode, guarded_node, same_guarded, either_guarded, quieted, enclosed_guarded, enclosed_map}
-use Rattle.c_grammar.specs.Laws.Lists.{Items, Kept, all_good, all_added, all_stop, list, chain, chain_exact, chain_stop, last_of, stop_goes, stop_last, stop_made, added_in_row}
+use Rattle.c_grammar.specs.Laws.Form.{Form, Exact, Node, Image, only, both, map_to, node_exact, same_exact, choose_exact, whole_exact, two, three, bind_same, choose_same, choose_map, open_seq, open_exact, either, either_exact, Guarded, either_guarded, quieted, enclosed_guarded, enclosed_map}
+use Rattle.c_grammar.specs.Laws.Lists.{Items, Kept, all_good, all_added, all_stop, list, chain, chain_exact, chain_stop, last_of, stop_made, added_in_row}
 use Rattle.c_grammar.specs.Laws.Single.{single, one_exact, always, mark_form, expect_exact, sees_mark}
 use Rattle.c_grammar.specs.Laws.Rows.{pre, pre_exact, deeper, opened, opened_exact, closed, closed_exact}
 use Rattle.c_grammar.specs.Laws.Cases.{DeclaratorSuffixShape, declarator_suffix_shape, DirectShape, direct_shape}
 use Rattle.c_grammar.specs.Laws.Behind.{expr_form, both_true, both_are, nat_le-true, nat_le-is, before_mark, peek_mark}
 use Rattle.c_grammar.specs.Laws.Starts.{Begins, begins_seen, image_begins, peek_first, sized_opens}
-use Rattle.c_grammar.specs.Laws.Postfix.{up, deep_list}
+use Rattle.c_grammar.specs.Laws.Postfix.{deep_list}
 use Rattle.c_grammar.specs.Laws.Forms.{pointer_spelling, pointer_items, middle_form, behind_items, parts_form, parts_of, declarator_form, is_no_name, nothing_stop}
 use Rattle.c_grammar.specs.Laws.TypeNames.{Ending, unlike, declarator_before, specifiers_before, close_ends}
 use Rattle.c_grammar.specs.Laws.Pointers.{pointers_exact, pointers_spelt, pointers_good, pointers_quiet, pointers_flat}
-use Rattle.c_grammar.specs.Laws.DeclaratorFacts.{suffix_mark, suffix_begins, declares_parts, parts_declare, parts_first}
+use Rattle.c_grammar.specs.Laws.DeclaratorFacts.{suffix_mark, suffix_begins, declares_parts, parts_declare}
 use Rattle.c_grammar.specs.Laws.Middle.{middle_exact}
-use Rattle.c_grammar.specs.Laws.Parameters.{parameter_form, parameter_parts, parts_of_parameter, good_parts, first_parameter, next_form, first_exact, next_exact}
+use Rattle.c_grammar.specs.Laws.Parameters.{parameter_form, parts_of_parameter, good_parts, first_parameter, next_form}
 use Rattle.c_grammar.specs.Laws.VoidParameters.{void_is, specifier_no_close}
-use Rattle.c_grammar.specs.Laws.SpecifierStarts.{StartsSpecifier, specifiers_start}
+use Rattle.c_grammar.specs.Laws.SpecifierStarts.{specifiers_start}
 
 abbrev pub suffix_form : Form DeclaratorSuffix
 suffix_form = record {
-    spell = declarator_suffix_spelling;
-    good = λ names x. (declarator_suffix_level x names).0.good ≡ true;
-    adds = λ names x. (declarator_suffix_level x names).1;
-    nest = declarator_suffix_nesting;
-    stop = λ x names rest. Unit {0};
-  }
+  spell = declarator_suffix_spelling;
+  good = λ names x. (declarator_suffix_level x names).0.good ≡ true;
+  adds = λ names x. (declarator_suffix_level x names).1;
+  nest = declarator_suffix_nesting;
+  stop = λ x names rest. Unit {0};
+}
 
 -- ---- arrays
 
@@ -93,14 +92,14 @@ array_stop (inr t) behind rest = tt
 
 array_node : Node (opened p.LeftBracket array_tail) array_of suffix_form
 array_node = record {
-    good = λ names t g. array_good names t.0 t.1 g.1;
-    parts = λ names t g. (tt, array_parts names t.0 t.1 g);
-    nested = λ t. array_nested t.0 t.1;
-    spelt = λ t. array_spelt t.0 t.1;
-    seen = λ names t. array_seen names t.0 t.1;
-    stop = λ names t behind rest g h. tt;
-    from_stop = λ names t behind rest g h. array_stop t.1 behind rest;
-  }
+  good = λ names t g. array_good names t.0 t.1 g.1;
+  parts = λ names t g. (tt, array_parts names t.0 t.1 g);
+  nested = λ t. array_nested t.0 t.1;
+  spelt = λ t. array_spelt t.0 t.1;
+  seen = λ names t. array_seen names t.0 t.1;
+  stop = λ names t behind rest g h. tt;
+  from_stop = λ names t behind rest g h. array_stop t.1 behind rest;
+}
 
 array_is : (more : ℕ) (inner : Inner) (i : State) → array more inner i
     ≡ map_to (both (opening more p.LeftBracket) (λ from. choose (sees p.RightBracket) (map_to (expect p.RightBracket) inl) (map_to (both (inner.expr conditional) (λ x. expect p.RightBracket)) inr))) array_of i
@@ -108,28 +107,33 @@ unfolding array
 array_is more inner i =
     let tail : Pos → Parser (Pos ⊎ (Expr × Pos)) = λ from. choose (sees p.RightBracket) (map_to (expect p.RightBracket) inl) (map_to (both (inner.expr conditional) (λ x. expect p.RightBracket)) inr) in
     bind_same (opening more p.LeftBracket) (λ from. choose (sees p.RightBracket) (unsized more inner from) (sized more inner from)) (λ from. tail from >>= (λ u. pure (array_by from u)))
-      (λ from j. choose_same (sees p.RightBracket) (unsized more inner from) (sized more inner from) (unsized more inner from) _ (λ j. refl)
-        (λ j. two (inner.expr conditional) (λ x. expect p.RightBracket) (λ x to. suffix.ArrayOf from x to) j) j
-        ∙ choose_map (sees p.RightBracket) (expect p.RightBracket) (both (inner.expr conditional) (λ x. expect p.RightBracket)) (array_by from) j) i
+    (λ from j. choose_same (sees p.RightBracket) (unsized more inner from) (sized more inner from) (unsized more inner from) _ (λ j. refl)
+    (λ j. two (inner.expr conditional) (λ x. expect p.RightBracket) (λ x to. suffix.ArrayOf from x to) j) j
+    ∙ choose_map (sees p.RightBracket) (expect p.RightBracket) (both (inner.expr conditional) (λ x. expect p.RightBracket)) (array_by from) j) i
     ∙ two (opening more p.LeftBracket) tail array_by i
 
 array_exact : (more : ℕ) (inner : Inner) → Exact (deeper (expr_form conditional)) more (inner.expr conditional) → Exact (only (Image array_of) suffix_form) more (array more inner)
 array_exact more inner exact =
     same_exact (only (Image array_of) suffix_form) more _ (array more inner) (array_is more inner)
     (node_exact (opened p.LeftBracket array_tail) array_of suffix_form more _
-      (opened_exact p.LeftBracket array_tail more _
-        (either_exact (mark_form p.RightBracket) (closed (deeper (expr_form conditional)) p.RightBracket) more (sees p.RightBracket) (expect p.RightBracket) _ (expect_exact p.RightBracket more)
-          (closed_exact (deeper (expr_form conditional)) p.RightBracket more (inner.expr conditional) exact (λ names x at rest g. before_mark conditional _ p.RightBracket at rest (omega arith)))
-          (λ names at rest g st. sees_mark p.RightBracket names at rest)
-          (λ names t rest g st. ap (λ l. sees p.RightBracket (names, l)) (append_assoc (expr_spelling t.0) (punct p.RightBracket t.1 ∷ []) rest) ∙ sized_opens names t.0 _ (let a = g.0 in omega arith)))) array_node)
+    (opened_exact p.LeftBracket array_tail more _
+    (either_exact (mark_form p.RightBracket) (closed (deeper (expr_form conditional)) p.RightBracket) more (sees p.RightBracket) (expect p.RightBracket) _ (expect_exact p.RightBracket more)
+    (closed_exact (deeper (expr_form conditional)) p.RightBracket more (inner.expr conditional) exact (λ names x at rest g. before_mark conditional _ p.RightBracket at rest (omega arith)))
+    (λ names at rest g st. sees_mark p.RightBracket names at rest)
+    (λ names t rest g st. ap (λ l. sees p.RightBracket (names, l)) (append_assoc (expr_spelling t.0) (punct p.RightBracket t.1 ∷ []) rest) ∙ sized_opens names t.0 _ (let a = g.0 in omega arith)))) array_node)
 
 -- ---- a list of parameters
 
 abbrev parameter_items : Items (Unit {0}) ParameterTree
 parameter_items = record {
-    spell = parameter_spelling; good = λ s. next_form.good; adds = next_form.adds; nest = next_form.nest; stop = next_form.stop;
-    goes = λ s. sees p.Comma; step = λ s x. tt
-  }
+  spell = parameter_spelling;
+  good = λ s. next_form.good;
+  adds = next_form.adds;
+  nest = next_form.nest;
+  stop = next_form.stop;
+  goes = λ s. sees p.Comma;
+  step = λ s x. tt;
+}
 
 -- a further parameter begins with a comma
 comma_begins : (x : ParameterTree) (c : Option Pos) → (out-Parameter x).comma ≡ c → is_some c ≡ true → Begins p.Comma (parameter_spelling x)
@@ -157,13 +161,13 @@ no_comma names = refl
 module _ (more : ℕ) (inner : Inner) (nexts : Exact next_form more (next_parameter more inner)) where
   parameters_kept : Kept parameter_items more (λ s. next_parameter more inner)
   parameters_kept = record {
-      sound = λ s names ts x end go h. nexts.sound names ts x end h;
-      complete = λ s names x rest g n st. nexts.complete names x rest g n st;
-      starts = λ s names x rest g st. begins_seen p.Comma p.Comma names _ rest true (comma_begins x (out-Parameter x).comma refl g.0) refl;
-      ends = λ s names. no_comma names;
-      follows = λ s names x y rest g h st. parameter_then x y _ rest h.0;
-      some = λ s names x g. let b = comma_begins x (out-Parameter x).comma refl g.0 in subst (λ l. 0 < length l) (sym b.spelt) (omega arith);
-    }
+    sound = λ s names ts x end go h. nexts.sound names ts x end h;
+    complete = λ s names x rest g n st. nexts.complete names x rest g n st;
+    starts = λ s names x rest g st. begins_seen p.Comma p.Comma names _ rest true (comma_begins x (out-Parameter x).comma refl g.0) refl;
+    ends = λ s names. no_comma names;
+    follows = λ s names x y rest g h st. parameter_then x y _ rest h.0;
+    some = λ s names x g. let b = comma_begins x (out-Parameter x).comma refl g.0 in subst (λ l. 0 < length l) (sym b.spelt) (omega arith);
+  }
 
 abbrev some_form : Form (ParameterTree × List ParameterTree)
 some_form = chain first_parameter parameter_items (λ x. tt)
@@ -172,6 +176,7 @@ some_close : (names : Names) (t : ParameterTree × List ParameterTree) (at : Pos
 some_close names t at rest g = by t.0 t.1 (names ++ some_form.adds names t) where
   no_more : sees p.Comma (names, punct p.RightParen at ∷ rest) ≡ false
   no_more = unlike p.RightParen p.Comma at rest refl
+
   by : (x : ParameterTree) (xs : List ParameterTree) (n : Names) → chain_stop first_parameter parameter_items (λ x. tt) x xs n (punct p.RightParen at ∷ rest)
   by x [] n = (parameter_before x n p.RightParen at rest close_ends, no_more)
   by x (y ∷ ys) n = stop_made parameter_items tt y ys n (punct p.RightParen at ∷ rest) (parameter_before (last_of parameter_items y ys) n p.RightParen at rest close_ends) no_more
@@ -197,17 +202,17 @@ module _ (more : ℕ) (inner : Inner) (firsts : Exact first_parameter more (para
   whole_list =
       closed_exact some_form p.RightParen more _
       (chain_exact first_parameter parameter_items (λ x. tt) more (parameter more inner None) (λ s. next_parameter more inner) firsts (parameters_kept more inner nexts)
-        (λ names x y rest g h st. parameter_then x y _ rest h.0)) some_close
+      (λ names x y rest g h st. parameter_then x y _ rest h.0)) some_close
 
   list_guarded : Guarded (λ i. sees_void i ≡ false) (closed (not_void some_form) p.RightParen) more (list_reader more inner)
   list_guarded = record {
-      sound = λ names ts t s known h.
-          let g = whole_list.sound names ts t s h in
-          let v = void_is names t.0.0 t.0.1 t.1 s.1 g.good.0.0 (commas_of _ t.0.1 g.good.0.1) in
-          let e = sym (ap (λ l. sees_void (names, l)) (g.spelt ∙ list_flat t.0.0 t.0.1 t.1 s.1)) ∙ known in
-          record { good = ((g.good.0, sym v ∙ e), tt); nested = g.nested; spelt = g.spelt; seen = g.seen; stops = g.stops };
-      complete = λ names t rest g n st. whole_list.complete names t rest (g.0.0, tt) n st;
-    }
+    sound = λ names ts t s known h.
+        let g = whole_list.sound names ts t s h in
+        let v = void_is names t.0.0 t.0.1 t.1 s.1 g.good.0.0 (commas_of _ t.0.1 g.good.0.1) in
+        let e = sym (ap (λ l. sees_void (names, l)) (g.spelt ∙ list_flat t.0.0 t.0.1 t.1 s.1)) ∙ known in
+        record { good = ((g.good.0, sym v ∙ e), tt); nested = g.nested; spelt = g.spelt; seen = g.seen; stops = g.stops };
+    complete = λ names t rest g n st. whole_list.complete names t rest (g.0.0, tt) n st;
+  }
 
 -- ---- `(` `void` `)`
 
@@ -281,7 +286,7 @@ tail_good names from (inr (inr t)) g =
     let x : ParameterTree = t.0.0 in
     ap (λ f. (f names).0.good) (declarator_suffix_level-Parameters from (x ∷ t.0.1) t.1)
     ∙ both_are (not (only_void (in_row (map parameter_level (x ∷ t.0.1)) names).0)) _ (ap not g.0.1)
-      (both_are _ _ (ap not (comma_told x names ∙ ap is_some g.0.0.0.0)) (both_are _ _ g.0.0.0.1 (rest_told (names ++ (parameter_level x names).1) t.0.1 g.0.0.1)))
+    (both_are _ _ (ap not (comma_told x names ∙ ap is_some g.0.0.0.0)) (both_are _ _ g.0.0.0.1 (rest_told (names ++ (parameter_level x names).1) t.0.1 g.0.0.1)))
 
 flipped : (b : Bool) → not b ≡ true → b ≡ false
 flipped true h = absurd cc
@@ -320,14 +325,14 @@ tail_stop (inr (inr t)) behind rest = tt
 
 tail_node : Node (opened p.LeftParen tail_form) tail_of suffix_form
 tail_node = record {
-    good = λ names t g. tail_good names t.0 t.1 g.1;
-    parts = λ names t g. (tt, tail_parts names t.0 t.1 g);
-    nested = λ t. tail_nested t.0 t.1;
-    spelt = λ t. tail_spelt t.0 t.1;
-    seen = λ names t. tail_seen names t.0 t.1;
-    stop = λ names t behind rest g h. tt;
-    from_stop = λ names t behind rest g h. tail_stop t.1 behind rest;
-  }
+  good = λ names t g. tail_good names t.0 t.1 g.1;
+  parts = λ names t g. (tt, tail_parts names t.0 t.1 g);
+  nested = λ t. tail_nested t.0 t.1;
+  spelt = λ t. tail_spelt t.0 t.1;
+  seen = λ names t. tail_seen names t.0 t.1;
+  stop = λ names t behind rest g h. tt;
+  from_stop = λ names t behind rest g h. tail_stop t.1 behind rest;
+}
 
 abbrev tail_reader : ℕ → Inner → Parser Tail
 tail_reader more inner = choose (sees p.RightParen) (map_to (expect p.RightParen) inl)
@@ -342,11 +347,11 @@ parameters_is : (more : ℕ) (inner : Inner) (i : State) → parameters more inn
 unfolding parameters
 parameters_is more inner i =
     bind_same (opening more p.LeftParen) (λ from. choose (sees p.RightParen) (no_parameters more inner from) (choose sees_void (void_parameters more inner from) (some_parameters more inner from)))
-      (λ from. tail_reader more inner >>= (λ u. pure (tail_by from u)))
-      (λ from j. choose_same (sees p.RightParen) (no_parameters more inner from) (choose sees_void (void_parameters more inner from) (some_parameters more inner from)) (no_parameters more inner from) _ (λ j. refl)
-        (λ j. choose_same sees_void (void_parameters more inner from) (some_parameters more inner from) _ _ (λ j. two (one void_at) (λ at. expect p.RightParen) (λ at to. suffix.Void from at to) j) (some_is more inner from) j
-          ∙ choose_map sees_void (both (one void_at) (λ at. expect p.RightParen)) (enclosed (list_reader more inner)) (λ c. tail_by from (inr c)) j) j
-        ∙ choose_map (sees p.RightParen) (expect p.RightParen) (choose sees_void (map_to (both (one void_at) (λ at. expect p.RightParen)) inl) (map_to (enclosed (list_reader more inner)) inr)) (tail_by from) j) i
+    (λ from. tail_reader more inner >>= (λ u. pure (tail_by from u)))
+    (λ from j. choose_same (sees p.RightParen) (no_parameters more inner from) (choose sees_void (void_parameters more inner from) (some_parameters more inner from)) (no_parameters more inner from) _ (λ j. refl)
+    (λ j. choose_same sees_void (void_parameters more inner from) (some_parameters more inner from) _ _ (λ j. two (one void_at) (λ at. expect p.RightParen) (λ at to. suffix.Void from at to) j) (some_is more inner from) j
+    ∙ choose_map sees_void (both (one void_at) (λ at. expect p.RightParen)) (enclosed (list_reader more inner)) (λ c. tail_by from (inr c)) j) j
+    ∙ choose_map (sees p.RightParen) (expect p.RightParen) (choose sees_void (map_to (both (one void_at) (λ at. expect p.RightParen)) inl) (map_to (enclosed (list_reader more inner)) inr)) (tail_by from) j) i
     ∙ two (opening more p.LeftParen) (λ from. tail_reader more inner) tail_by i
 
 list_seen : (names : Names) (t : (ParameterTree × List ParameterTree) × Pos) (rest : Tokens) → list_tail.good names t → sees_void (names, list_tail.spell t ++ rest) ≡ false
@@ -377,9 +382,9 @@ module _ (more : ℕ) (inner : Inner) (firsts : Exact first_parameter more (para
   tail_exact =
       either_exact (mark_form p.RightParen) (either void_tail list_tail) more (sees p.RightParen) (expect p.RightParen) _ (expect_exact p.RightParen more)
       (either_guarded void_tail list_tail more sees_void (both (one void_at) (λ at. expect p.RightParen)) (enclosed (list_reader more inner)) (void_exact more)
-        (enclosed_guarded (λ i. sees_void i ≡ false) (closed (not_void some_form) p.RightParen) more (list_reader more inner) list_free (list_guarded more inner firsts nexts))
-        (λ names t rest g s. void_shown names t.0 t.1 rest)
-        (λ names t rest g s. list_seen names t rest g))
+      (enclosed_guarded (λ i. sees_void i ≡ false) (closed (not_void some_form) p.RightParen) more (list_reader more inner) list_free (list_guarded more inner firsts nexts))
+      (λ names t rest g s. void_shown names t.0 t.1 rest)
+      (λ names t rest g s. list_seen names t rest g))
       (λ names at rest g s. sees_mark p.RightParen names at rest)
       (λ names u rest g s. either_opens names u rest g)
 
@@ -419,8 +424,8 @@ unfolding one_suffix
 suffix_exact more inner exact firsts nexts =
     whole_exact (λ x. Image array_of x ⊎ Image tail_of x) suffix_form more _ (λ names x g. suffix_is (declarator_suffix_shape x) names g)
     (choose_exact (Image array_of) (Image tail_of) suffix_form more (sees p.LeftBracket) (array more inner) (parameters more inner) (array_exact more inner exact) (parameters_exact more inner firsts nexts)
-      (λ names x rest i g s. begins_seen p.LeftBracket p.LeftBracket names _ rest true (array_begins x i) refl)
-      (λ names x rest i g s. begins_seen p.LeftBracket p.LeftParen names _ rest false (tail_begins x i) refl))
+    (λ names x rest i g s. begins_seen p.LeftBracket p.LeftBracket names _ rest true (array_begins x i) refl)
+    (λ names x rest i g s. begins_seen p.LeftBracket p.LeftParen names _ rest false (tail_begins x i) refl))
 
 -- ---- declarators
 
@@ -440,16 +445,16 @@ no_suffix names = refl
 
 suffixes_kept : (more : ℕ) (inner : Inner) → Exact suffix_form more (one_suffix more inner) → Kept behind_items more (λ s. one_suffix more inner)
 suffixes_kept more inner exact = record {
-    sound = λ s names ts x end go h. exact.sound names ts x end h;
-    complete = λ s names x rest g n st. exact.complete names x rest g n st;
-    starts = λ s names x rest g st.
-        let b = suffix_begins (declarator_suffix_shape x) in
-        ap (λ l. sees p.LeftBracket (names, l ++ rest) || sees p.LeftParen (names, l ++ rest)) b.spelt
-        ∙ ap (λ o. is_mark p.LeftBracket o || is_mark p.LeftParen o) (peek_mark (suffix_mark (declarator_suffix_shape x)) b.at (b.others ++ rest)) ∙ suffix_goes (declarator_suffix_shape x);
-    ends = λ s names. no_suffix names;
-    follows = λ s names x y rest g h st. tt;
-    some = λ s names x g. some_suffix x;
-  }
+  sound = λ s names ts x end go h. exact.sound names ts x end h;
+  complete = λ s names x rest g n st. exact.complete names x rest g n st;
+  starts = λ s names x rest g st.
+      let b = suffix_begins (declarator_suffix_shape x) in
+      ap (λ l. sees p.LeftBracket (names, l ++ rest) || sees p.LeftParen (names, l ++ rest)) b.spelt
+      ∙ ap (λ o. is_mark p.LeftBracket o || is_mark p.LeftParen o) (peek_mark (suffix_mark (declarator_suffix_shape x)) b.at (b.others ++ rest)) ∙ suffix_goes (declarator_suffix_shape x);
+  ends = λ s names. no_suffix names;
+  follows = λ s names x y rest g h st. tt;
+  some = λ s names x g. some_suffix x;
+}
 
 -- pointers do not go on with what stands in the middle of a declarator, nor with a suffix
 
@@ -515,16 +520,18 @@ nothing_before : (purpose : Use) (typed : Bool) (names : Names) (x : DeclaratorS
     → nothing_stop true purpose typed names (declarator_suffix_spelling x ++ rest)
 nothing_before purpose typed names x rest n (inl i) g =
     subst (λ x. nothing_stop true purpose typed names (declarator_suffix_spelling x ++ rest)) i.1
-    (subst (λ l. nothing_stop true purpose typed names (l ++ rest)) (sym (array_spelt i.0.0 i.0.1))
-      (ap (λ o. is_mark p.LeftParen o && opens_declarator purpose names (peek (behind (punct p.LeftBracket i.0.0 ∷ (array_tail.spell i.0.1 ++ rest))))) (peek_first (punct p.LeftBracket i.0.0) (array_tail.spell i.0.1 ++ rest)),
-        takes_none purpose typed names p.LeftBracket i.0.0 (array_tail.spell i.0.1 ++ rest)))
+    (subst (λ l. nothing_stop true purpose typed names (l ++ rest)) (sym (array_spelt i.0.0 i.0.1)) (
+      ap (λ o. is_mark p.LeftParen o && opens_declarator purpose names (peek (behind (punct p.LeftBracket i.0.0 ∷ (array_tail.spell i.0.1 ++ rest))))) (peek_first (punct p.LeftBracket i.0.0) (array_tail.spell i.0.1 ++ rest)),
+      takes_none purpose typed names p.LeftBracket i.0.0 (array_tail.spell i.0.1 ++ rest),
+    ))
 nothing_before purpose typed names x rest n (inr i) g =
     let ts : Tokens = tail_form.spell i.0.1 ++ rest in
     subst (λ x. (declarator_suffix_level x names).0.good ≡ true → nothing_stop true purpose typed names (declarator_suffix_spelling x ++ rest)) i.1 (λ g.
-      subst (λ l. nothing_stop true purpose typed names (l ++ rest)) (sym (tail_spelt i.0.0 i.0.1))
-      (ap (λ l. sees p.LeftParen (names, punct p.LeftParen i.0.0 ∷ ts) && opens_declarator purpose names (peek l)) (behind_first (punct p.LeftParen i.0.0) ts)
-        ∙ ap (λ b. sees p.LeftParen (names, punct p.LeftParen i.0.0 ∷ ts) && b) (no_group purpose names (peek ts) n (begins_tail names i.0.1 rest (tail_parts names i.0.0 i.0.1 g))) ∙ and_no _,
-        takes_none purpose typed names p.LeftParen i.0.0 ts)) g
+    subst (λ l. nothing_stop true purpose typed names (l ++ rest)) (sym (tail_spelt i.0.0 i.0.1)) (
+      ap (λ l. sees p.LeftParen (names, punct p.LeftParen i.0.0 ∷ ts) && opens_declarator purpose names (peek l)) (behind_first (punct p.LeftParen i.0.0) ts)
+          ∙ ap (λ b. sees p.LeftParen (names, punct p.LeftParen i.0.0 ∷ ts) && b) (no_group purpose names (peek ts) n (begins_tail names i.0.1 rest (tail_parts names i.0.0 i.0.1 g))) ∙ and_no _,
+      takes_none purpose typed names p.LeftParen i.0.0 ts,
+    )) g
 
 named_by : {d : Direct} → DirectShape d → (typed : Bool) (names : Names) → declares Declaring typed (direct_level d names).0 ≡ true → is_no_name d ≡ true → ⊥
 unfolding is_no_name out-Direct out
@@ -569,10 +576,11 @@ front_follows : (purpose : Use) (typed : Bool) (names : Names) (t : List Pointer
 front_follows purpose typed names t x rest g h =
     let names1 : Names = names ++ all_added pointer_items names t.0 in
     let same : names1 ++ (direct_level t.1 names1).1 ≡ names ++ (front_form purpose typed).adds names t = append_assoc names (all_added pointer_items names t.0) (direct_level t.1 names1).1 in
-    let k = suffix_token x in
-    (subst (λ n. (middle_form purpose typed).stop t.1 n (declarator_suffix_spelling x ++ rest)) same
-      (middle_follows purpose typed names1 t.1 x rest (is_no_name t.1) refl g.1 (subst (λ n. (declarator_suffix_level x n).0.good ≡ true) (sym same) h)),
-      λ z. subst (λ l. all_stop pointer_items tt t.0 (names ++ (front_form purpose typed).adds names t) (l ++ rest)) (sym k.2) (stars_before t.0 _ k.0 (k.1 ++ rest) k.3))
+    let k = suffix_token x in (
+      subst (λ n. (middle_form purpose typed).stop t.1 n (declarator_suffix_spelling x ++ rest)) same
+          (middle_follows purpose typed names1 t.1 x rest (is_no_name t.1) refl g.1 (subst (λ n. (declarator_suffix_level x n).0.good ≡ true) (sym same) h)),
+      λ z. subst (λ l. all_stop pointer_items tt t.0 (names ++ (front_form purpose typed).adds names t) (l ++ rest)) (sym k.2) (stars_before t.0 _ k.0 (k.1 ++ rest) k.3),
+    )
 
 module _ (more : ℕ) (inner : Inner) (purpose : Use) (typed : Bool) (exact : Exact (deeper (expr_form conditional)) more (inner.expr conditional))
     (firsts : Exact first_parameter more (parameter more inner None)) (nexts : Exact next_form more (next_parameter more inner)) (declarators : Exact (deeper (declarator_form purpose typed)) more (inner.declarator purpose typed)) where
@@ -610,28 +618,29 @@ module _ (purpose : Use) (typed : Bool) where
 
   pub declarator_parts : (names : Names) (t : (List Pointer × Direct) × List DeclaratorSuffix) → declares purpose typed (declarator_level (declarator_of t) names).0 ≡ true → (parts_form purpose typed).good names t
   declarator_parts names t h =
-      let b = declares_parts purpose typed (declarator_of t) names h in
-      ((pointers_good names t.0.0, subst (λ n. declares purpose typed (direct_level t.0.1 n).0 ≡ true) (sym (front_names names t.0.0)) b.0),
-        subst (λ n. all_good behind_items tt n t.1) (sym (parts_names names t)) (suffixes_are (names ++ (direct_level t.0.1 names).1) t.1 b.1))
+      let b = declares_parts purpose typed (declarator_of t) names h in (
+        (pointers_good names t.0.0, subst (λ n. declares purpose typed (direct_level t.0.1 n).0 ≡ true) (sym (front_names names t.0.0)) b.0),
+        subst (λ n. all_good behind_items tt n t.1) (sym (parts_names names t)) (suffixes_are (names ++ (direct_level t.0.1 names).1) t.1 b.1),
+      )
 
   declarator_seen : (names : Names) (t : (List Pointer × Direct) × List DeclaratorSuffix) → (declarator_level (declarator_of t) names).1 ≡ (parts_form purpose typed).adds names t
   declarator_seen names t =
       ap (λ f. (f names).1) (declarator_level-is (declarator_of t))
       ∙ ap (λ l. (direct_level t.0.1 names).1 ++ l) (sym (added_in_row behind_items declarator_suffix_level (λ names x. refl) (names ++ (direct_level t.0.1 names).1) t.1))
       ∙ sym (ap (λ l. (l ++ (direct_level t.0.1 (names ++ l)).1) ++ all_added behind_items (names ++ (l ++ (direct_level t.0.1 (names ++ l)).1)) t.1) (pointers_quiet names t.0.0)
-        ∙ ap (λ n. (direct_level t.0.1 n).1 ++ all_added behind_items (names ++ (direct_level t.0.1 n).1) t.1) (append-nil names))
+      ∙ ap (λ n. (direct_level t.0.1 n).1 ++ all_added behind_items (names ++ (direct_level t.0.1 n).1) t.1) (append-nil names))
 
   pub declarator_node : Node (parts_form purpose typed) declarator_of (declarator_form purpose typed)
   declarator_node = record {
-      good = declarator_good;
-      parts = declarator_parts;
-      nested = λ t. declarator_nesting-is (declarator_of t) ∙ (let e = pointers_flat t.0.0 in omega arith);
-      spelt = λ t. declarator_spelling-is (declarator_of t) ∙ ap (λ l. l ++ (direct_spelling t.0.1 ++ joined (map declarator_suffix_spelling t.1))) (pointers_spelt t.0.0)
-          ∙ sym (append_assoc (joined (map pointer_spelling t.0.0)) (direct_spelling t.0.1) (joined (map declarator_suffix_spelling t.1)));
-      seen = declarator_seen;
-      stop = λ names t behind rest g h. h;
-      from_stop = λ names t behind rest g h. h;
-    }
+    good = declarator_good;
+    parts = declarator_parts;
+    nested = λ t. declarator_nesting-is (declarator_of t) ∙ (let e = pointers_flat t.0.0 in omega arith);
+    spelt = λ t. declarator_spelling-is (declarator_of t) ∙ ap (λ l. l ++ (direct_spelling t.0.1 ++ joined (map declarator_suffix_spelling t.1))) (pointers_spelt t.0.0)
+        ∙ sym (append_assoc (joined (map pointer_spelling t.0.0)) (direct_spelling t.0.1) (joined (map declarator_suffix_spelling t.1)));
+    seen = declarator_seen;
+    stop = λ names t behind rest g h. h;
+    from_stop = λ names t behind rest g h. h;
+  }
 
 pub declarator_exact : (more : ℕ) (inner : Inner) (purpose : Use) (typed : Bool) → Exact (deeper (expr_form conditional)) more (inner.expr conditional)
     → Exact first_parameter more (parameter more inner None) → Exact next_form more (next_parameter more inner) → Exact (deeper (declarator_form purpose typed)) more (inner.declarator purpose typed)
@@ -640,5 +649,5 @@ unfolding read_declarator
 declarator_exact more inner purpose typed exact firsts nexts declarators =
     whole_exact (Image declarator_of) (declarator_form purpose typed) more _ (λ names d g. (parts_of d, roll-out-Declarator d))
     (same_exact (only (Image declarator_of) (declarator_form purpose typed)) more _ (read_declarator more inner purpose typed)
-      (three read_pointers (λ stars. middle more inner purpose typed) (λ stars d. many (goes_suffix more inner) (one_suffix more inner)) (λ stars d suffixes. roll-Declarator (record { pointers = stars; direct = d; suffixes = suffixes })))
-      (node_exact (parts_form purpose typed) declarator_of (declarator_form purpose typed) more _ (parts_exact more inner purpose typed exact firsts nexts declarators) (declarator_node purpose typed)))
+    (three read_pointers (λ stars. middle more inner purpose typed) (λ stars d. many (goes_suffix more inner) (one_suffix more inner)) (λ stars d suffixes. roll-Declarator (record { pointers = stars; direct = d; suffixes = suffixes })))
+    (node_exact (parts_form purpose typed) declarator_of (declarator_form purpose typed) more _ (parts_exact more inner purpose typed exact firsts nexts declarators) (declarator_node purpose typed)))

@@ -1,37 +1,35 @@
 -- Enumerators are read exactly (C11 6.7.2.2).
-use Rattle.std.specs.Prelude.{◌≡◌, ℕ, ◌+◌, ◌≤◌, ◌<◌, max, Bool, true, false, not, ◌&&◌, ◌||◌, if◌then◌else◌, nat_le, List, [], ◌∷◌, ◌++◌, length, map, Option, Some, None, is_some, Ok, refl}
-use Rattle.std.proofs.Common.{ap, sym, ◌∙◌, subst, cond, arith, append_assoc, append-nil, ◌⊎◌, inl, inr}
+use Rattle.std.specs.Prelude.{◌≡◌, ℕ, ◌+◌, ◌≤◌, ◌<◌, max, Bool, true, false, ◌&&◌, List, [], ◌∷◌, ◌++◌, length, map, Option, Some, None, is_some, refl}
+use Rattle.std.proofs.Common.{ap, sym, ◌∙◌, subst, arith, append-nil, ◌⊎◌, inl, inr}
 use Rattle.c_tree.specs.declared.token.Pos.{Pos}
 use Rattle.c_tree.specs.declared.token.Punct.{Punct}
 use Rattle.c_tree.specs.declared.token.Punct.TheVariants as p
 use Rattle.c_tree.specs.declared.token.Token.{Token}
 use Rattle.c_tree.specs.declared.expression.Identifier.{Identifier}
 use Rattle.c_tree.specs.declared.expression.Expr.{Expr}
-use Rattle.c_tree.specs.declared.specifier.Enumerator.{Enumerator, out-Enumerator, roll-Enumerator, out-roll-Enumerator}
+use Rattle.c_tree.specs.declared.specifier.Enumerator.{Enumerator, out-Enumerator, out-roll-Enumerator}
 use Rattle.c_tree.specs.declared.specifier.Enumerator.TheVariants as enumerator
 use Rattle.c_tree.specs.declared.declarator.DeclaratorSuffix.TheOpen.{Enumerator-F}
 use Rattle.c_tree.specs.Layers.{EnumeratorLayer}
-use Rattle.c_tree.specs.Spelling.Tokens.{punct, name as name_token, comma_at, joined}
+use Rattle.c_tree.specs.Spelling.Tokens.{punct, name as name_token, comma_at}
 use Rattle.c_tree.specs.Spelling.Trees.{expr_spelling, enumerator_spelling, enumerator_spelling-Plain, enumerator_spelling-Valued}
-use Rattle.c_tree.specs.Levels.Names.{Names, in_row}
-use Rattle.c_tree.specs.Levels.Productions.{conditional, none, joins}
-use Rattle.c_tree.specs.Levels.Facts.{ListedFacts, listed, rest_listed, filled}
+use Rattle.c_tree.specs.Levels.Names.{Names}
+use Rattle.c_tree.specs.Levels.Productions.{conditional, joins}
 use Rattle.c_tree.specs.Levels.Trees.{expr_level, enumerator_level, enumerator_level-Plain, enumerator_level-Valued}
 use Rattle.c_tree.specs.Nesting.OfTrees.{deepest}
 use Rattle.c_tree.specs.Nesting.Trees.{expr_nesting, enumerator_nesting, enumerator_nesting-Plain, enumerator_nesting-Valued}
 use Rattle.c_grammar.specs.Punctuators.{same_mark}
-use Rattle.c_grammar.specs.Input.{Tokens, State, Parser, and_then, ◌>>=◌, pure, choose, peek, behind, is_mark, is_name, sees, expect, identifier, opening, many, declare}
+use Rattle.c_grammar.specs.Input.{Tokens, State, Parser, and_then, ◌>>=◌, pure, choose, peek, behind, is_name, sees, expect, identifier, opening, many, declare}
 use Rattle.c_grammar.specs.Read.Inner.{Inner}
 use Rattle.c_grammar.specs.Read.Specifiers.{enumerator_value, one_enumerator, next_enumerator, goes_enumerator, optional_comma}
 use Rattle.c_grammar.specs.Ending.Trees.{expr_ending}
-use Rattle.c_grammar.specs.Laws.Form.{Form, Exact, Node, Image, only, both, map_to, node_exact, same_exact, whole_exact, two, bind_same, choose_same, choose_map, either, either_guarded, declaring, declaring_form, declaring_exact, without, without_guarded, declare_two, together}
-use Rattle.c_grammar.specs.Laws.Lists.{Items, Kept, all_good, all_added, all_stop, chain, chain_exact, chain_stop, last_of, stop_made, added_in_row}
+use Rattle.c_grammar.specs.Laws.Form.{Form, Exact, Node, Image, only, both, map_to, node_exact, same_exact, whole_exact, two, bind_same, choose_same, choose_map, either, either_guarded, declaring, declaring_form, declaring_exact, without, without_guarded, declare_two}
+use Rattle.c_grammar.specs.Laws.Lists.{Items, Kept, chain, chain_exact, last_of, stop_made}
 use Rattle.c_grammar.specs.Laws.Single.{mark_form, expect_exact, name_form, identifier_exact, opening_form, opening_exact, sees_mark}
 use Rattle.c_grammar.specs.Laws.Rows.{pre, pre_exact, post, post_exact, deeper, closed, closed_exact}
 use Rattle.c_grammar.specs.Laws.Cases.{EnumeratorShape, enumerator_shape}
-use Rattle.c_grammar.specs.Laws.Behind.{goes_on, expr_form, both_true, both_are, nat_le-true, nat_le-is, before_mark, peek_mark}
-use Rattle.c_grammar.specs.Laws.Starts.{Begins, peek_first}
-use Rattle.c_grammar.specs.Laws.Postfix.{up, deep_list}
+use Rattle.c_grammar.specs.Laws.Behind.{goes_on, expr_form, nat_le-true, nat_le-is, before_mark, peek_mark}
+use Rattle.c_grammar.specs.Laws.Starts.{peek_first}
 use Rattle.c_grammar.specs.Laws.TypeNames.{unlike}
 
 -- ---- a name, and its value where one stands
@@ -59,12 +57,12 @@ parts_exact : (more : ℕ) (inner : Inner) → Exact (deeper (expr_form conditio
 parts_exact more inner exact =
     declaring_exact constant_of valued_name more _
     (pre_exact name_form (λ id. value_form) more identifier _ (λ names a. refl) (identifier_exact more)
-      (λ id. either_guarded (pre (mark_form p.Assign) (λ _. deeper (expr_form conditional))) (without (sees p.Assign)) more (sees p.Assign) (both (expect p.Assign) (λ equals. inner.expr conditional)) (pure tt)
-        (pre_exact (mark_form p.Assign) (λ _. deeper (expr_form conditional)) more (expect p.Assign) (λ equals. inner.expr conditional) (λ names a. refl) (expect_exact p.Assign more) (λ _. exact) (λ names a b rest g h s. tt))
-        (without_guarded (sees p.Assign) more)
-        (λ names t rest g s. sees_mark p.Assign names t.0 (expr_spelling t.1 ++ rest))
-        (λ names u rest g s. subst (λ n. sees p.Assign (n, rest) ≡ false) (append-nil names) s))
-      (λ names a b rest g h s. tt))
+    (λ id. either_guarded (pre (mark_form p.Assign) (λ _. deeper (expr_form conditional))) (without (sees p.Assign)) more (sees p.Assign) (both (expect p.Assign) (λ equals. inner.expr conditional)) (pure tt)
+    (pre_exact (mark_form p.Assign) (λ _. deeper (expr_form conditional)) more (expect p.Assign) (λ equals. inner.expr conditional) (λ names a. refl) (expect_exact p.Assign more) (λ _. exact) (λ names a b rest g h s. tt))
+    (without_guarded (sees p.Assign) more)
+    (λ names t rest g s. sees_mark p.Assign names t.0 (expr_spelling t.1 ++ rest))
+    (λ names u rest g s. subst (λ n. sees p.Assign (n, rest) ≡ false) (append-nil names) s))
+    (λ names a b rest g h s. tt))
     (λ names t rest g h. value_any t.1 _ _ rest h) (λ names t rest g h. value_any t.1 _ _ rest h)
 
 abbrev made_by : Option Pos → Identifier → (Pos × Expr) ⊎ Unit {0} → Enumerator
@@ -122,12 +120,12 @@ layer_comma (Enumerator-F.Valued comma id equals value) = comma
 -- an enumerator in its braces
 abbrev pub enumerator_form : Form Enumerator
 enumerator_form = record {
-    spell = enumerator_spelling;
-    good = λ names x. (enumerator_level x names).0.good ≡ true;
-    adds = λ names x. (enumerator_level x names).1;
-    nest = λ x. layer_nest (out-Enumerator x);
-    stop = λ x names rest. layer_stop (out-Enumerator x) names rest;
-  }
+  spell = enumerator_spelling;
+  good = λ names x. (enumerator_level x names).0.good ≡ true;
+  adds = λ names x. (enumerator_level x names).1;
+  nest = λ x. layer_nest (out-Enumerator x);
+  stop = λ x names rest. layer_stop (out-Enumerator x) names rest;
+}
 
 abbrev pub first_enumerator : Form Enumerator
 first_enumerator = record { spell = enumerator_form.spell; good = λ names x. (layer_comma (out-Enumerator x) ≡ None) × enumerator_form.good names x; adds = enumerator_form.adds; nest = enumerator_form.nest; stop = enumerator_form.stop }
@@ -161,25 +159,25 @@ next_of t = made_by (Some t.0) t.1.0 t.1.1
 
 first_node : Node parts_form first_of first_enumerator
 first_node = record {
-    good = λ names t g. (comma_by None t.0 t.1, made_good None names t.0 t.1 g.1);
-    parts = λ names t g. (tt, good_made None names t.0 t.1 g.1);
-    nested = λ t. ap layer_nest (made_layer None t.0 t.1) ∙ value_nest None t.0 t.1;
-    spelt = λ t. made_spelt None t.0 t.1;
-    seen = λ names t. made_seen None names t.0 t.1;
-    stop = λ names t behind rest g h. subst (λ l. layer_stop l behind rest) (sym (made_layer None t.0 t.1)) (value_stop None t.0 t.1 behind rest h);
-    from_stop = λ names t behind rest g h. stop_value None t.0 t.1 behind rest (subst (λ l. layer_stop l behind rest) (made_layer None t.0 t.1) h);
-  }
+  good = λ names t g. (comma_by None t.0 t.1, made_good None names t.0 t.1 g.1);
+  parts = λ names t g. (tt, good_made None names t.0 t.1 g.1);
+  nested = λ t. ap layer_nest (made_layer None t.0 t.1) ∙ value_nest None t.0 t.1;
+  spelt = λ t. made_spelt None t.0 t.1;
+  seen = λ names t. made_seen None names t.0 t.1;
+  stop = λ names t behind rest g h. subst (λ l. layer_stop l behind rest) (sym (made_layer None t.0 t.1)) (value_stop None t.0 t.1 behind rest h);
+  from_stop = λ names t behind rest g h. stop_value None t.0 t.1 behind rest (subst (λ l. layer_stop l behind rest) (made_layer None t.0 t.1) h);
+}
 
 next_node : Node (pre (mark_form p.Comma) (λ _. parts_form)) next_of next_form
 next_node = record {
-    good = λ names t g. (ap is_some (comma_by (Some t.0) t.1.0 t.1.1), made_good (Some t.0) names t.1.0 t.1.1 g.1.1);
-    parts = λ names t g. (tt, (tt, good_made (Some t.0) names t.1.0 t.1.1 g.1));
-    nested = λ t. ap layer_nest (made_layer (Some t.0) t.1.0 t.1.1) ∙ value_nest (Some t.0) t.1.0 t.1.1 ∙ omega arith;
-    spelt = λ t. made_spelt (Some t.0) t.1.0 t.1.1;
-    seen = λ names t. made_seen (Some t.0) names t.1.0 t.1.1;
-    stop = λ names t behind rest g h. subst (λ l. layer_stop l behind rest) (sym (made_layer (Some t.0) t.1.0 t.1.1)) (value_stop (Some t.0) t.1.0 t.1.1 behind rest h);
-    from_stop = λ names t behind rest g h. stop_value (Some t.0) t.1.0 t.1.1 behind rest (subst (λ l. layer_stop l behind rest) (made_layer (Some t.0) t.1.0 t.1.1) h);
-  }
+  good = λ names t g. (ap is_some (comma_by (Some t.0) t.1.0 t.1.1), made_good (Some t.0) names t.1.0 t.1.1 g.1.1);
+  parts = λ names t g. (tt, (tt, good_made (Some t.0) names t.1.0 t.1.1 g.1));
+  nested = λ t. ap layer_nest (made_layer (Some t.0) t.1.0 t.1.1) ∙ value_nest (Some t.0) t.1.0 t.1.1 ∙ omega arith;
+  spelt = λ t. made_spelt (Some t.0) t.1.0 t.1.1;
+  seen = λ names t. made_seen (Some t.0) names t.1.0 t.1.1;
+  stop = λ names t behind rest g h. subst (λ l. layer_stop l behind rest) (sym (made_layer (Some t.0) t.1.0 t.1.1)) (value_stop (Some t.0) t.1.0 t.1.1 behind rest h);
+  from_stop = λ names t behind rest g h. stop_value (Some t.0) t.1.0 t.1.1 behind rest (subst (λ l. layer_stop l behind rest) (made_layer (Some t.0) t.1.0 t.1.1) h);
+}
 
 first_is : {x : Enumerator} (s : EnumeratorShape x) → layer_comma (out-Enumerator x) ≡ None → Image first_of x
 first_is (EnumeratorShape.a_plain comma id) e = ((id, inr tt), ap (λ c. enumerator.Plain c id) (sym (sym (comma_by comma id (inr tt)) ∙ e)))
@@ -200,10 +198,10 @@ unfolding one_enumerator
 enumerator_reads more inner comma i =
     let value : Identifier → Parser ((Pos × Expr) ⊎ Unit {0}) = λ id. choose (sees p.Assign) (map_to (both (expect p.Assign) (λ equals. inner.expr conditional)) inl) (map_to (pure tt) inr) in
     bind_same identifier (λ id. choose (sees p.Assign) (enumerator_value more inner comma id) (pure (enumerator.Plain comma id)) >>= (λ x. declare ((id.text, false) ∷ []) >>= (λ u. pure x)))
-      (λ id. (value id >>= (λ u. pure (made_by comma id u))) >>= (λ x. declare ((id.text, false) ∷ []) >>= (λ u. pure x)))
-      (λ id j. ap (λ o. and_then o (λ x. declare ((id.text, false) ∷ []) >>= (λ u. pure x)))
-        (choose_same (sees p.Assign) (enumerator_value more inner comma id) (pure (enumerator.Plain comma id)) _ _ (λ j. two (expect p.Assign) (λ equals. inner.expr conditional) (λ equals value. enumerator.Valued comma id equals value) j) (λ j. refl) j
-          ∙ choose_map (sees p.Assign) (both (expect p.Assign) (λ equals. inner.expr conditional)) (pure tt) (made_by comma id) j)) i
+    (λ id. (value id >>= (λ u. pure (made_by comma id u))) >>= (λ x. declare ((id.text, false) ∷ []) >>= (λ u. pure x)))
+    (λ id j. ap (λ o. and_then o (λ x. declare ((id.text, false) ∷ []) >>= (λ u. pure x)))
+    (choose_same (sees p.Assign) (enumerator_value more inner comma id) (pure (enumerator.Plain comma id)) _ _ (λ j. two (expect p.Assign) (λ equals. inner.expr conditional) (λ equals value. enumerator.Valued comma id equals value) j) (λ j. refl) j
+    ∙ choose_map (sees p.Assign) (both (expect p.Assign) (λ equals. inner.expr conditional)) (pure tt) (made_by comma id) j)) i
     ∙ declare_two identifier value (λ id. (id.text, false) ∷ []) (made_by comma) i
 
 next_reads : (more : ℕ) (inner : Inner) (i : State) → next_enumerator more inner i ≡ map_to (both (expect p.Comma) (λ c. parts_reader inner)) next_of i
@@ -222,15 +220,20 @@ module _ (more : ℕ) (inner : Inner) (exact : Exact (deeper (expr_form conditio
   next_exact =
       whole_exact (Image next_of) next_form more _ (λ names x g. next_is (enumerator_shape x) g.0)
       (same_exact (only (Image next_of) next_form) more _ _ (next_reads more inner) (node_exact (pre (mark_form p.Comma) (λ _. parts_form)) next_of next_form more _
-        (pre_exact (mark_form p.Comma) (λ _. parts_form) more (expect p.Comma) (λ c. parts_reader inner) (λ names a. refl) (expect_exact p.Comma more) (λ _. parts_exact more inner exact) (λ names a b rest g h s. tt)) next_node))
+      (pre_exact (mark_form p.Comma) (λ _. parts_form) more (expect p.Comma) (λ c. parts_reader inner) (λ names a. refl) (expect_exact p.Comma more) (λ _. parts_exact more inner exact) (λ names a b rest g h s. tt)) next_node))
 
 -- ---- a list of enumerators
 
 abbrev pub enumerator_items : Items (Unit {0}) Enumerator
 enumerator_items = record {
-    spell = enumerator_spelling; good = λ s. next_form.good; adds = next_form.adds; nest = next_form.nest; stop = next_form.stop;
-    goes = λ s. goes_enumerator; step = λ s x. tt
-  }
+  spell = enumerator_spelling;
+  good = λ s. next_form.good;
+  adds = next_form.adds;
+  nest = next_form.nest;
+  stop = next_form.stop;
+  goes = λ s. goes_enumerator;
+  step = λ s x. tt;
+}
 
 behind_first : (t : Token) (ts : Tokens) → behind (t ∷ ts) ≡ ts
 unfolding behind
@@ -270,13 +273,13 @@ no_enumerator names = refl
 
 pub enumerators_kept : (more : ℕ) (inner : Inner) → Exact next_form more (next_enumerator more inner) → Kept enumerator_items more (λ s. next_enumerator more inner)
 enumerators_kept more inner exact = record {
-    sound = λ s names ts x end go h. exact.sound names ts x end h;
-    complete = λ s names x rest g n st. exact.complete names x rest g n st;
-    starts = λ s names x rest g st. let w = next_spelt (next_is (enumerator_shape x) g.0) rest in ap (λ l. goes_enumerator (names, l ++ rest)) w.3 ∙ comma_and_name names w.0 w.1 (w.2 ++ rest);
-    ends = λ s names. no_enumerator names;
-    follows = λ s names x y rest g h st. enumerator_then x y _ rest h.0;
-    some = λ s names x g. let w = next_spelt (next_is (enumerator_shape x) g.0) [] in subst (λ l. 0 < length l) (sym w.3) (omega arith);
-  }
+  sound = λ s names ts x end go h. exact.sound names ts x end h;
+  complete = λ s names x rest g n st. exact.complete names x rest g n st;
+  starts = λ s names x rest g st. let w = next_spelt (next_is (enumerator_shape x) g.0) rest in ap (λ l. goes_enumerator (names, l ++ rest)) w.3 ∙ comma_and_name names w.0 w.1 (w.2 ++ rest);
+  ends = λ s names. no_enumerator names;
+  follows = λ s names x y rest g h st. enumerator_then x y _ rest h.0;
+  some = λ s names x g. let w = next_spelt (next_is (enumerator_shape x) g.0) [] in subst (λ l. 0 < length l) (sym w.3) (omega arith);
+}
 
 -- ---- enumerators in braces, and a last comma where one stands
 
@@ -329,10 +332,10 @@ optional_exact : (more : ℕ) → Exact comma_form more optional_comma
 optional_exact more =
     whole_exact (Image comma_by_side) comma_form more _ (λ names c g. comma_is c)
     (same_exact (only (Image comma_by_side) comma_form) more _ optional_comma (choose_map (sees p.Comma) (expect p.Comma) (pure tt) comma_by_side)
-      (node_exact comma_sides comma_by_side comma_form more _
-        (either_guarded (mark_form p.Comma) (without (sees p.Comma)) more (sees p.Comma) (expect p.Comma) (pure tt) (expect_exact p.Comma more) (without_guarded (sees p.Comma) more)
-          (λ names at rest g s. sees_mark p.Comma names at rest)
-          (λ names u rest g s. subst (λ n. sees p.Comma (n, rest) ≡ false) (append-nil names) s)) comma_node))
+    (node_exact comma_sides comma_by_side comma_form more _
+    (either_guarded (mark_form p.Comma) (without (sees p.Comma)) more (sees p.Comma) (expect p.Comma) (pure tt) (expect_exact p.Comma more) (without_guarded (sees p.Comma) more)
+    (λ names at rest g s. sees_mark p.Comma names at rest)
+    (λ names u rest g s. subst (λ n. sees p.Comma (n, rest) ≡ false) (append-nil names) s)) comma_node))
 
 abbrev pub braced : Form ((Pos × Enumerator) × List Enumerator)
 braced = chain (pre (opening_form p.LeftBrace) (λ _. first_enumerator)) enumerator_items (λ t. tt)
@@ -350,7 +353,7 @@ braced_closes t None to names rest = braced_before t.0 t.1 names p.RightBrace to
 braced_closes t (Some at) to names rest =
     braced_before t.0 t.1 names p.Comma at (punct p.RightBrace to ∷ rest) comma_ends
     (ap (λ l. sees p.Comma (names, punct p.Comma at ∷ (punct p.RightBrace to ∷ rest)) && is_name (peek l)) (behind_first (punct p.Comma at) (punct p.RightBrace to ∷ rest))
-      ∙ ap (λ o. sees p.Comma (names, punct p.Comma at ∷ (punct p.RightBrace to ∷ rest)) && is_name o) (peek_mark p.RightBrace to rest) ∙ and_no _)
+    ∙ ap (λ o. sees p.Comma (names, punct p.Comma at ∷ (punct p.RightBrace to ∷ rest)) && is_name o) (peek_mark p.RightBrace to rest) ∙ and_no _)
   where
     and_no : (b : Bool) → (b && false) ≡ false
     and_no true = refl
@@ -365,9 +368,9 @@ pub enum_body_exact : (more : ℕ) (inner : Inner) → Exact (deeper (expr_form 
 enum_body_exact more inner exact =
     post_exact braced (λ _. closed comma_form p.RightBrace) more _ (λ t. both optional_comma (λ c. expect p.RightBrace)) (λ t names c. refl)
     (chain_exact (pre (opening_form p.LeftBrace) (λ _. first_enumerator)) enumerator_items (λ t. tt) more _ (λ s. next_enumerator more inner)
-      (pre_exact (opening_form p.LeftBrace) (λ _. first_enumerator) more (opening more p.LeftBrace) (λ from. one_enumerator more inner None) (λ names a. refl) (opening_exact p.LeftBrace more) (λ _. first_exact more inner exact) (λ names a b rest g h s. tt))
-      (enumerators_kept more inner (next_exact more inner exact))
-      (λ names a y rest g h st. enumerator_then a.1 y _ rest h.0))
+    (pre_exact (opening_form p.LeftBrace) (λ _. first_enumerator) more (opening more p.LeftBrace) (λ from. one_enumerator more inner None) (λ names a. refl) (opening_exact p.LeftBrace more) (λ _. first_exact more inner exact) (λ names a b rest g h s. tt))
+    (enumerators_kept more inner (next_exact more inner exact))
+    (λ names a y rest g h st. enumerator_then a.1 y _ rest h.0))
     (λ t. closed_exact comma_form p.RightBrace more optional_comma (optional_exact more) (λ names c at rest g. comma_closes c _ at rest))
     (λ names t c rest g h s. braced_closes t c.0 c.1 _ rest)
 

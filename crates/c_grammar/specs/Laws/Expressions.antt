@@ -1,10 +1,7 @@
 -- Each production of expressions is read exactly where what stands in brackets is.
-use Rattle.std.specs.Prelude.{◌≡◌, ℕ, ◌+◌, ◌≤◌, Bool, true, false, if◌then◌else◌, ◌==◌, refl}
-use Rattle.std.proofs.Common.{ap, sym, ◌∙◌, subst, cond, arith}
+use Rattle.std.specs.Prelude.{ℕ}
 use Rattle.c_tree.specs.declared.expression.Level.TheVariants as level
-use Rattle.c_tree.specs.declared.expression.Expr.{Expr}
-use Rattle.c_tree.specs.Levels.Productions.{cast, or, conditional, assignment, comma}
-use Rattle.c_grammar.specs.Input.{Parser}
+use Rattle.c_tree.specs.Levels.Productions.{or, conditional, assignment, comma}
 use Rattle.c_grammar.specs.Read.Inner.{Inner, type_name}
 use Rattle.c_grammar.specs.Read.Expressions as reads
 use Rattle.c_grammar.specs.Laws.Form.{Exact}
@@ -23,14 +20,14 @@ module _ (more : ℕ) (inner : Inner) (inside : InsideExpr more inner) (types : 
   or_exact =
       binary_exact level.Or more (reads.and more inner)
       (binary_exact level.And more (reads.bit_or more inner)
-        (binary_exact level.BitOr more (reads.bit_xor more inner)
-          (binary_exact level.BitXor more (reads.bit_and more inner)
-            (binary_exact level.BitAnd more (reads.equality more inner)
-              (binary_exact level.Equality more (reads.relation more inner)
-                (binary_exact level.Relation more (reads.shift more inner)
-                  (binary_exact level.Shift more (reads.sum more inner)
-                    (binary_exact level.Sum more (reads.product more inner)
-                      (binary_exact level.Product more (reads.cast more inner) (cast_exact more inner inside types))))))))))
+      (binary_exact level.BitOr more (reads.bit_xor more inner)
+      (binary_exact level.BitXor more (reads.bit_and more inner)
+      (binary_exact level.BitAnd more (reads.equality more inner)
+      (binary_exact level.Equality more (reads.relation more inner)
+      (binary_exact level.Relation more (reads.shift more inner)
+      (binary_exact level.Shift more (reads.sum more inner)
+      (binary_exact level.Sum more (reads.product more inner)
+      (binary_exact level.Product more (reads.cast more inner) (cast_exact more inner inside types))))))))))
 
   pub conditional_is : Exact (expr_form conditional) more (reads.conditional more inner)
   conditional_is = conditional_exact more inner inside.comma_is or_exact

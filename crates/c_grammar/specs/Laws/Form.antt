@@ -1,9 +1,9 @@
 -- What a parser reads, exactly: the trees of a form, each by its spelling, up to where the tokens do not go on with it.
-use Rattle.std.specs.Prelude.{◌≡◌, ℕ, ◌≤◌, max, Bool, true, false, if◌then◌else◌, List, [], ◌∷◌, ◌++◌, Ok, Err, refl}
+use Rattle.std.specs.Prelude.{◌≡◌, ℕ, ◌≤◌, max, Bool, true, false, if◌then◌else◌, [], ◌∷◌, ◌++◌, Ok, Err, refl}
 use Rattle.std.proofs.Common.{ap, sym, ◌∙◌, subst, cond, arith, append_assoc, append-nil, ◌⊎◌, inl, inr}
 use Rattle.c_tree.specs.declared.token.Token.{Token}
 use Rattle.c_tree.specs.Levels.Names.{Names}
-use Rattle.c_grammar.specs.Input.{Tokens, State, Fault, Outcome, Parser, and_then, ◌>>=◌, pure, refuse, choose, declare, enclosed}
+use Rattle.c_grammar.specs.Input.{Tokens, State, Outcome, Parser, and_then, ◌>>=◌, pure, refuse, choose, declare, enclosed}
 
 pub record Form (A : Type 0) : Type 1 where
   -- its tokens
@@ -47,12 +47,12 @@ both p q = p >>= (λ a. q a >>= (λ b. pure (a, b)))
 
 abbrev pub seq : {A B : Type 0} → Form A → (A → Form B) → Form (A × B)
 seq F G = record {
-    spell = λ t. F.spell t.0 ++ (G t.0).spell t.1;
-    good = λ names t. F.good names t.0 × (G t.0).good (names ++ F.adds names t.0) t.1;
-    adds = λ names t. F.adds names t.0 ++ (G t.0).adds (names ++ F.adds names t.0) t.1;
-    nest = λ t. max (F.nest t.0) ((G t.0).nest t.1);
-    stop = λ t names rest. (G t.0).stop t.1 names rest;
-  }
+  spell = λ t. F.spell t.0 ++ (G t.0).spell t.1;
+  good = λ names t. F.good names t.0 × (G t.0).good (names ++ F.adds names t.0) t.1;
+  adds = λ names t. F.adds names t.0 ++ (G t.0).adds (names ++ F.adds names t.0) t.1;
+  nest = λ t. max (F.nest t.0) ((G t.0).nest t.1);
+  stop = λ t names rest. (G t.0).stop t.1 names rest;
+}
 
 -- what comes next does not go on with what came first
 abbrev pub Follow : {A B : Type 0} → Form A → (A → Form B) → Type 0
@@ -81,12 +81,12 @@ module _ {A B : Type 0} (F : Form A) (G : A → Form B) (more : ℕ) (p : Parser
       let m = f.nested in
       let k = g.nested in
       let whole : Got (seq F G) more names ts (x, y) end = record {
-            good = (f.good, good1);
-            nested = omega arith;
-            spelt = f.spelt ∙ ap (λ l. F.spell x ++ l) g.spelt ∙ sym (append_assoc (F.spell x) ((G x).spell y) end.1);
-            seen = seen1 ∙ append_assoc names (F.adds names x) ((G x).adds names1 y);
-            stops = g.stops;
-          } in
+        good = (f.good, good1);
+        nested = omega arith;
+        spelt = f.spelt ∙ ap (λ l. F.spell x ++ l) g.spelt ∙ sym (append_assoc (F.spell x) ((G x).spell y) end.1);
+        seen = seen1 ∙ append_assoc names (F.adds names x) ((G x).adds names1 y);
+        stops = g.stops;
+      } in
       subst2 (λ (t : A × B) (s : State). Got (seq F G) more names ts t s) e r whole
 
   seq_complete : Follow F G → (names : Names) (t : A × B) (rest : Tokens) → (seq F G).good names t → (seq F G).nest t ≤ more → (seq F G).stop t (names ++ (seq F G).adds names t) rest
@@ -116,12 +116,12 @@ module _ {A B : Type 0} (F : Form A) (G : A → Form B) (more : ℕ) (p : Parser
 
 abbrev pub open_seq : {A B : Type 0} → Form A → (A → Form B) → Form (A × B)
 open_seq F G = record {
-    spell = λ t. F.spell t.0 ++ (G t.0).spell t.1;
-    good = λ names t. F.good names t.0 × (G t.0).good (names ++ F.adds names t.0) t.1;
-    adds = λ names t. F.adds names t.0 ++ (G t.0).adds (names ++ F.adds names t.0) t.1;
-    nest = λ t. max (F.nest t.0) ((G t.0).nest t.1);
-    stop = λ t names rest. (G t.0).stop t.1 names rest × ((G t.0).spell t.1 ≡ [] → F.stop t.0 names rest);
-  }
+  spell = λ t. F.spell t.0 ++ (G t.0).spell t.1;
+  good = λ names t. F.good names t.0 × (G t.0).good (names ++ F.adds names t.0) t.1;
+  adds = λ names t. F.adds names t.0 ++ (G t.0).adds (names ++ F.adds names t.0) t.1;
+  nest = λ t. max (F.nest t.0) ((G t.0).nest t.1);
+  stop = λ t names rest. (G t.0).stop t.1 names rest × ((G t.0).spell t.1 ≡ [] → F.stop t.0 names rest);
+}
 
 module _ {A B : Type 0} (F : Form A) (G : A → Form B) (more : ℕ) (p : Parser A) (q : A → Parser B) (first : Exact F more p) (second : (a : A) → Exact (G a) more (q a))
     (quiet : (names : Names) (a : A) (b : B) → (G a).good names b → (G a).spell b ≡ [] → (G a).adds names b ≡ [])
@@ -143,14 +143,17 @@ module _ {A B : Type 0} (F : Form A) (G : A → Form B) (more : ℕ) (p : Parser
       let m = f.nested in
       let k = g.nested in
       let whole : Got (open_seq F G) more names ts (x, y) end = record {
-            good = (f.good, good1);
-            nested = omega arith;
-            spelt = f.spelt ∙ ap (λ l. F.spell x ++ l) g.spelt ∙ sym (append_assoc (F.spell x) ((G x).spell y) end.1);
-            seen = seen1 ∙ append_assoc names (F.adds names x) ((G x).adds names1 y);
-            stops = (g.stops, λ e.
+        good = (f.good, good1);
+        nested = omega arith;
+        spelt = f.spelt ∙ ap (λ l. F.spell x ++ l) g.spelt ∙ sym (append_assoc (F.spell x) ((G x).spell y) end.1);
+        seen = seen1 ∙ append_assoc names (F.adds names x) ((G x).adds names1 y);
+        stops = (
+          g.stops,
+          λ e.
               subst (λ n. F.stop x n end.1) (sym (g.seen ∙ ap (λ l. mid.0 ++ l) (quiet mid.0 x y g.good e) ∙ append-nil mid.0))
-              (subst (λ r. F.stop x mid.0 r) (g.spelt ∙ ap (λ l. l ++ end.1) e) f.stops));
-          } in
+              (subst (λ r. F.stop x mid.0 r) (g.spelt ∙ ap (λ l. l ++ end.1) e) f.stops),
+        );
+      } in
       subst2 (λ (t : A × B) (s : State). Got (open_seq F G) more names ts t s) w.0 w.1 whole
 
   first_stop : (names : Names) (a : A) (b : B) (rest ts : Tokens) → (G a).spell b ≡ ts → F.good names a → (G a).good (names ++ F.adds names a) b
@@ -216,12 +219,12 @@ module _ {T C : Type 0} (F : Form T) (f : T → C) (H : Form C) (more : ℕ) (p 
       let w = ok_pair {A = C} (f t) c end s b.2 in
       let n : H.nest (f t) ≤ more = subst (λ m. m ≤ more) (sym (node.nested t)) g.nested in
       let whole : Got (only (Image f) H) more names ts (f t) end = record {
-            good = ((t, refl), node.good names t g.good);
-            nested = n;
-            spelt = g.spelt ∙ ap (λ l. l ++ end.1) (sym (node.spelt t));
-            seen = g.seen ∙ ap (λ l. names ++ l) (sym (node.seen names t));
-            stops = node.stop names t end.0 end.1 g.good g.stops;
-          } in
+        good = ((t, refl), node.good names t g.good);
+        nested = n;
+        spelt = g.spelt ∙ ap (λ l. l ++ end.1) (sym (node.spelt t));
+        seen = g.seen ∙ ap (λ l. names ++ l) (sym (node.seen names t));
+        stops = node.stop names t end.0 end.1 g.good g.stops;
+      } in
       subst2 (λ (c : C) (s : State). Got (only (Image f) H) more names ts c s) w.0 w.1 whole
 
   node_at : (names : Names) (t : T) (rest : Tokens) → H.good names (f t) → H.nest (f t) ≤ more → H.stop (f t) (names ++ H.adds names (f t)) rest
@@ -241,7 +244,7 @@ module _ {T C : Type 0} (F : Form T) (f : T → C) (H : Form C) (more : ℕ) (p 
       let t : T = g.0.0 in
       let e : f t ≡ c = g.0.1 in
       subst (λ c. H.good names c → H.nest c ≤ more → H.stop c (names ++ H.adds names c) rest → map_to p f (names, H.spell c ++ rest) ≡ Ok (c, (names ++ H.adds names c, rest))) e
-          (node_at names t rest) g.1 deep stops
+      (node_at names t rest) g.1 deep stops
 
   pub node_exact : Exact (only (Image f) H) more (map_to p f)
   node_exact = record { sound = node_sound; complete = node_complete }
@@ -271,12 +274,12 @@ module _ {T C : Type 0} (F : Form T) (f : T → C) (H : Form C) (more : ℕ) (p 
       let w = ok_pair {A = C} (f t) c end s b.2 in
       let n : H.nest (f t) ≤ more = subst (λ m. m ≤ more) (sym (joint.nested t)) g.nested in
       let whole : Got H more names ts (f t) end = record {
-            good = joint.good names t g.good;
-            nested = n;
-            spelt = g.spelt ∙ ap (λ l. l ++ end.1) (sym (joint.spelt t));
-            seen = g.seen ∙ ap (λ l. names ++ l) (sym (joint.seen names t));
-            stops = joint.stop names t end.0 end.1 g.good g.stops;
-          } in
+        good = joint.good names t g.good;
+        nested = n;
+        spelt = g.spelt ∙ ap (λ l. l ++ end.1) (sym (joint.spelt t));
+        seen = g.seen ∙ ap (λ l. names ++ l) (sym (joint.seen names t));
+        stops = joint.stop names t end.0 end.1 g.good g.stops;
+      } in
       subst2 (λ (c : C) (s : State). Got H more names ts c s) w.0 w.1 whole
 
   joint_at : (names : Names) (t : T) (rest : Tokens) → F.good names t → H.nest (f t) ≤ more → H.stop (f t) (names ++ H.adds names (f t)) rest
@@ -294,7 +297,7 @@ module _ {T C : Type 0} (F : Form T) (f : T → C) (H : Form C) (more : ℕ) (p 
   joint_complete names c rest g deep stops =
       let d = joint.split names c g in
       subst (λ c. H.nest c ≤ more → H.stop c (names ++ H.adds names c) rest → map_to p f (names, H.spell c ++ rest) ≡ Ok (c, (names ++ H.adds names c, rest))) d.whole
-          (joint_at names d.tuple rest d.good) deep stops
+      (joint_at names d.tuple rest d.good) deep stops
 
   pub joint_exact : Exact H more (map_to p f)
   joint_exact = record { sound = joint_sound; complete = joint_complete }
@@ -317,23 +320,23 @@ module _ {A : Type 0} (w v : A → Type 0) (H : Form A) (more : ℕ) (test : Sta
 
   pub choose_exact : Exact (only (λ x. w x ⊎ v x) H) more (choose test p q)
   choose_exact = record {
-      sound = λ names ts x s h. by_test (test (names, ts)) names ts x s h;
-      complete = λ names x rest g n s. by_side names x rest g.0 g.1 n s;
-    }
+    sound = λ names ts x s h. by_test (test (names, ts)) names ts x s h;
+    complete = λ names x rest g n s. by_side names x rest g.0 g.1 n s;
+  }
 
 -- where each of the form is one of these
 pub whole_exact : {A : Type 0} (w : A → Type 0) (H : Form A) (more : ℕ) (p : Parser A) → ((names : Names) (x : A) → H.good names x → w x) → Exact (only w H) more p → Exact H more p
 whole_exact w H more p all exact = record {
-    sound = λ names ts x s h. let g = exact.sound names ts x s h in record { good = g.good.1; nested = g.nested; spelt = g.spelt; seen = g.seen; stops = g.stops };
-    complete = λ names x rest g n s. exact.complete names x rest (all names x g, g) n s;
-  }
+  sound = λ names ts x s h. let g = exact.sound names ts x s h in record { good = g.good.1; nested = g.nested; spelt = g.spelt; seen = g.seen; stops = g.stops };
+  complete = λ names x rest g n s. exact.complete names x rest (all names x g, g) n s;
+}
 
 -- a parser that gives the same
 pub same_exact : {A : Type 0} (F : Form A) (more : ℕ) (p q : Parser A) → ((i : State) → q i ≡ p i) → Exact F more p → Exact F more q
 same_exact F more p q same exact = record {
-    sound = λ names ts x s h. exact.sound names ts x s (sym (same (names, ts)) ∙ h);
-    complete = λ names x rest g n s. same (names, F.spell x ++ rest) ∙ exact.complete names x rest g n s;
-  }
+  sound = λ names ts x s h. exact.sound names ts x s (sym (same (names, ts)) ∙ h);
+  complete = λ names x rest g n s. same (names, F.spell x ++ rest) ∙ exact.complete names x rest g n s;
+}
 
 -- ---- several in a row, and what is made of them
 
@@ -343,6 +346,7 @@ together {A} {B} {T} p q k i = by (p i) where
   second : (a : A) (o : Outcome B) → and_then o (λ b. k a b) ≡ and_then (and_then o (λ b. pure (a, b))) (λ (t : A × B). k t.0 t.1)
   second a (Ok r) = refl
   second a (Err e) = refl
+
   by : (o : Outcome A) → and_then o (λ a. q a >>= (λ b. k a b)) ≡ and_then (and_then o (λ a. q a >>= (λ b. pure (a, b)))) (λ (t : A × B). k t.0 t.1)
   by (Ok r) = second r.0 (q r.0 r.1)
   by (Err e) = refl
@@ -385,9 +389,11 @@ choose_map {A} {B} {T} test p q f i = by (test i) where
   first : (o : Outcome A) → and_then o (λ a. pure (f (inl a))) ≡ and_then (and_then o (λ a. pure {A = A ⊎ B} (inl a))) (λ t. pure (f t))
   first (Ok r) = refl
   first (Err e) = refl
+
   second : (o : Outcome B) → and_then o (λ b. pure (f (inr b))) ≡ and_then (and_then o (λ b. pure {A = A ⊎ B} (inr b))) (λ t. pure (f t))
   second (Ok r) = refl
   second (Err e) = refl
+
   by : (b : Bool) → cond b (and_then (p i) (λ a. pure (f (inl a)))) (and_then (q i) (λ b. pure (f (inr b)))) ≡ and_then (cond b (and_then (p i) (λ a. pure (inl a))) (and_then (q i) (λ b. pure (inr b)))) (λ t. pure (f t))
   by true = first (p i)
   by false = second (q i)
@@ -434,8 +440,8 @@ module _ {A B : Type 0} (F : Form A) (G : Form B) where
   either_exact more test p q first second takes leaves =
       whole_exact (λ x. Image inl x ⊎ Image inr x) either more _ (λ names x g. side x)
       (choose_exact (Image inl) (Image inr) either more test (map_to p inl) (map_to q inr) (node_exact F inl either more p first left_node) (node_exact G inr either more q second right_node)
-        (λ names x rest i. subst (λ x. either.good names x → either.stop x (names ++ either.adds names x) rest → test (names, either.spell x ++ rest) ≡ true) i.1 (takes names i.0 rest))
-        (λ names x rest i. subst (λ x. either.good names x → either.stop x (names ++ either.adds names x) rest → test (names, either.spell x ++ rest) ≡ false) i.1 (leaves names i.0 rest)))
+      (λ names x rest i. subst (λ x. either.good names x → either.stop x (names ++ either.adds names x) rest → test (names, either.spell x ++ rest) ≡ true) i.1 (takes names i.0 rest))
+      (λ names x rest i. subst (λ x. either.good names x → either.stop x (names ++ either.adds names x) rest → test (names, either.spell x ++ rest) ≡ false) i.1 (leaves names i.0 rest)))
 
 -- ---- what is refused though it was read
 
@@ -450,6 +456,7 @@ dropping_is {A} {B} test p k i = by (p i) where
   side : (a : A) (s : State) (b : Bool) → cond b refuse (k a) s ≡ and_then (cond b refuse (pure a) s) k
   side a s true = refl
   side a s false = refl
+
   by : (o : Outcome A) → and_then o (λ a. cond (test a) refuse (k a)) ≡ and_then (and_then o (λ a. cond (test a) refuse (pure a))) k
   by (Ok r) = side r.0 r.1 (test r.0)
   by (Err e) = refl
@@ -463,14 +470,14 @@ module _ {A : Type 0} (test : A → Bool) (F : Form A) (more : ℕ) (p : Parser 
 
   pub dropping_exact : Exact (sparing test F) more (dropping test p)
   dropping_exact = record {
-      sound = λ names ts x s h.
-          let b = bind_ok (p (names, ts)) _ _ h in
-          let a : A = b.0.0 in
-          let mid : State = b.0.1 in
-          spared names ts a x mid s (test a) refl b.2 (exact.sound names ts a mid b.1);
-      complete = λ names x rest g n s.
-          ap (λ o. and_then o (λ a. cond (test a) refuse (pure a))) (exact.complete names x rest g.1 n s) ∙ ap (λ b. cond b refuse (pure x) (names ++ F.adds names x, rest)) g.0;
-    }
+    sound = λ names ts x s h.
+        let b = bind_ok (p (names, ts)) _ _ h in
+        let a : A = b.0.0 in
+        let mid : State = b.0.1 in
+        spared names ts a x mid s (test a) refl b.2 (exact.sound names ts a mid b.1);
+    complete = λ names x rest g n s.
+        ap (λ o. and_then o (λ a. cond (test a) refuse (pure a))) (exact.complete names x rest g.1 n s) ∙ ap (λ b. cond b refuse (pure x) (names ++ F.adds names x, rest)) g.0;
+  }
 
 -- ---- what is read exactly where something is known of the state
 
@@ -484,9 +491,9 @@ guarded_exact F more reads g = record { sound = λ names ts x s h. g.sound names
 
 pub same_guarded : {A : Type 0} (known : State → Type 0) (F : Form A) (more : ℕ) (p q : Parser A) → ((i : State) → q i ≡ p i) → Guarded known F more p → Guarded known F more q
 same_guarded known F more p q same g = record {
-    sound = λ names ts x s k h. g.sound names ts x s k (sym (same (names, ts)) ∙ h);
-    complete = λ names x rest a n s. same (names, F.spell x ++ rest) ∙ g.complete names x rest a n s;
-  }
+  sound = λ names ts x s k h. g.sound names ts x s k (sym (same (names, ts)) ∙ h);
+  complete = λ names x rest a n s. same (names, F.spell x ++ rest) ∙ g.complete names x rest a n s;
+}
 
 -- a node that is good where something is known of what it was read from
 pub record GuardedNode {T C : Type 0} (known : State → Type 0) (F : Form T) (f : T → C) (H : Form C) : Type 0 where
@@ -508,12 +515,12 @@ module _ {T C : Type 0} (known : State → Type 0) (F : Form T) (f : T → C) (H
       let w = ok_pair {A = C} (f t) c end s b.2 in
       let n : H.nest (f t) ≤ more = subst (λ m. m ≤ more) (sym (node.nested t)) g.nested in
       let whole : Got (only (Image f) H) more names ts (f t) end = record {
-            good = ((t, refl), node.good names t end.1 g.good (subst (λ l. known (names, l)) g.spelt k));
-            nested = n;
-            spelt = g.spelt ∙ ap (λ l. l ++ end.1) (sym (node.spelt t));
-            seen = g.seen ∙ ap (λ l. names ++ l) (sym (node.seen names t));
-            stops = node.stop names t end.0 end.1 g.good g.stops;
-          } in
+        good = ((t, refl), node.good names t end.1 g.good (subst (λ l. known (names, l)) g.spelt k));
+        nested = n;
+        spelt = g.spelt ∙ ap (λ l. l ++ end.1) (sym (node.spelt t));
+        seen = g.seen ∙ ap (λ l. names ++ l) (sym (node.seen names t));
+        stops = node.stop names t end.0 end.1 g.good g.stops;
+      } in
       subst2 (λ (c : C) (s : State). Got (only (Image f) H) more names ts c s) w.0 w.1 whole
 
   guarded_at : (names : Names) (t : T) (rest : Tokens) → H.good names (f t) → H.nest (f t) ≤ more → H.stop (f t) (names ++ H.adds names (f t)) rest
@@ -529,11 +536,11 @@ module _ {T C : Type 0} (known : State → Type 0) (F : Form T) (f : T → C) (H
 
   pub guarded_node : Guarded known (only (Image f) H) more (map_to p f)
   guarded_node = record {
-      sound = guarded_sound;
-      complete = λ names c rest g deep stops.
-          subst (λ c. H.good names c → H.nest c ≤ more → H.stop c (names ++ H.adds names c) rest → map_to p f (names, H.spell c ++ rest) ≡ Ok (c, (names ++ H.adds names c, rest))) g.0.1
-              (guarded_at names g.0.0 rest) g.1 deep stops;
-    }
+    sound = guarded_sound;
+    complete = λ names c rest g deep stops.
+        subst (λ c. H.good names c → H.nest c ≤ more → H.stop c (names ++ H.adds names c) rest → map_to p f (names, H.spell c ++ rest) ≡ Ok (c, (names ++ H.adds names c, rest))) g.0.1
+        (guarded_at names g.0.0 rest) g.1 deep stops;
+  }
 
 module _ {A : Type 0} (known : State → Type 0) (w v : A → Type 0) (H : Form A) (more : ℕ) (test : State → Bool) (p q : Parser A)
     (left : Guarded (λ i. known i × (test i ≡ true)) (only w H) more p) (right : Guarded (λ i. known i × (test i ≡ false)) (only v H) more q)
@@ -552,9 +559,9 @@ module _ {A : Type 0} (known : State → Type 0) (w v : A → Type 0) (H : Form 
 
   pub choose_guarded : Guarded known (only (λ x. w x ⊎ v x) H) more (choose test p q)
   choose_guarded = record {
-      sound = λ names ts x s k h. by_known (test (names, ts)) names ts x s k refl h;
-      complete = λ names x rest g n s. by_one names x rest g.0 g.1 n s;
-    }
+    sound = λ names ts x s k h. by_known (test (names, ts)) names ts x s k refl h;
+    complete = λ names x rest g n s. by_one names x rest g.0 g.1 n s;
+  }
 
 -- ---- what declares for what stands behind it, and what does not
 
@@ -570,21 +577,24 @@ pub declaring_exact : {A : Type 0} (extra : Names → A → Names) (F : Form A) 
     → ((names : Names) (a : A) (rest : Tokens) → F.good names a → F.stop a (names ++ (F.adds names a ++ extra names a)) rest → F.stop a (names ++ F.adds names a) rest)
     → Exact (declaring_form extra F) more (declaring extra p)
 declaring_exact {A} extra F more p exact to from = record {
-    sound = λ names ts x s h.
-        let b = bind_ok (p (names, ts)) _ _ h in
-        let a : A = b.0.0 in
-        let mid : State = b.0.1 in
-        let g = exact.sound names ts a mid b.1 in
-        let w = ok_pair {A = A} a x (mid.0 ++ extra names a, mid.1) s b.2 in
-        let n : mid.0 ++ extra names a ≡ names ++ (F.adds names a ++ extra names a) = ap (λ l. l ++ extra names a) g.seen ∙ append_assoc names (F.adds names a) (extra names a) in
-        subst2 (λ (x : A) (s : State). Got (declaring_form extra F) more names ts x s) w.0 w.1 (record {
-          good = g.good; nested = g.nested; spelt = g.spelt; seen = n;
-          stops = subst (λ m. F.stop a m mid.1) (sym n) (to names a mid.1 g.good (subst (λ m. F.stop a m mid.1) g.seen g.stops));
-        });
-    complete = λ names x rest g n s.
-        let end : Names → Outcome A = λ m. Ok (x, (m, rest)) in
-        ap (λ o. and_then o (λ a j. Ok (a, (j.0 ++ extra names a, j.1)))) (exact.complete names x rest g n (from names x rest g s)) ∙ ap end (append_assoc names (F.adds names x) (extra names x));
-  }
+  sound = λ names ts x s h.
+      let b = bind_ok (p (names, ts)) _ _ h in
+      let a : A = b.0.0 in
+      let mid : State = b.0.1 in
+      let g = exact.sound names ts a mid b.1 in
+      let w = ok_pair {A = A} a x (mid.0 ++ extra names a, mid.1) s b.2 in
+      let n : mid.0 ++ extra names a ≡ names ++ (F.adds names a ++ extra names a) = ap (λ l. l ++ extra names a) g.seen ∙ append_assoc names (F.adds names a) (extra names a) in
+      subst2 (λ (x : A) (s : State). Got (declaring_form extra F) more names ts x s) w.0 w.1 (record {
+        good = g.good;
+        nested = g.nested;
+        spelt = g.spelt;
+        seen = n;
+        stops = subst (λ m. F.stop a m mid.1) (sym n) (to names a mid.1 g.good (subst (λ m. F.stop a m mid.1) g.seen g.stops));
+      });
+  complete = λ names x rest g n s.
+      let end : Names → Outcome A = λ m. Ok (x, (m, rest)) in
+      ap (λ o. and_then o (λ a j. Ok (a, (j.0 ++ extra names a, j.1)))) (exact.complete names x rest g n (from names x rest g s)) ∙ ap end (append_assoc names (F.adds names x) (extra names x));
+}
 
 -- what it declares ends with it
 abbrev pub quieted : {A : Type 0} → Form A → Form A
@@ -592,17 +602,17 @@ quieted F = record { spell = F.spell; good = F.good; adds = λ names a. []; nest
 
 pub enclosed_guarded : {A : Type 0} (known : State → Type 0) (F : Form A) (more : ℕ) (p : Parser A) → ((a : A) (names : Names) (rest : Tokens) → F.stop a names rest) → Guarded known F more p → Guarded known (quieted F) more (enclosed p)
 enclosed_guarded {A} known F more p free exact = record {
-    sound = λ names ts x s know h.
-        let b = bind_ok (p (names, ts)) _ _ h in
-        let a : A = b.0.0 in
-        let mid : State = b.0.1 in
-        let g = exact.sound names ts a mid know b.1 in
-        let w = ok_pair {A = A} a x (names, mid.1) s b.2 in
-        subst2 (λ (x : A) (s : State). Got (quieted F) more names ts x s) w.0 w.1 (record { good = g.good; nested = g.nested; spelt = g.spelt; seen = sym (append-nil names); stops = free a names mid.1 });
-    complete = λ names x rest g n s.
-        let end : Names → Outcome A = λ m. Ok (x, (m, rest)) in
-        ap (λ o. and_then o (λ a j. Ok (a, (names, j.1)))) (exact.complete names x rest g n (free x (names ++ F.adds names x) rest)) ∙ ap end (sym (append-nil names));
-  }
+  sound = λ names ts x s know h.
+      let b = bind_ok (p (names, ts)) _ _ h in
+      let a : A = b.0.0 in
+      let mid : State = b.0.1 in
+      let g = exact.sound names ts a mid know b.1 in
+      let w = ok_pair {A = A} a x (names, mid.1) s b.2 in
+      subst2 (λ (x : A) (s : State). Got (quieted F) more names ts x s) w.0 w.1 (record { good = g.good; nested = g.nested; spelt = g.spelt; seen = sym (append-nil names); stops = free a names mid.1 });
+  complete = λ names x rest g n s.
+      let end : Names → Outcome A = λ m. Ok (x, (m, rest)) in
+      ap (λ o. and_then o (λ a j. Ok (a, (names, j.1)))) (exact.complete names x rest g n (free x (names ++ F.adds names x) rest)) ∙ ap end (sym (append-nil names));
+}
 
 pub enclosed_map : {A B : Type 0} (p : Parser A) (f : A → B) (i : State) → enclosed (map_to p f) i ≡ map_to (enclosed p) f i
 enclosed_map {A} {B} p f i = by (p i) where
@@ -648,11 +658,11 @@ without test = record { spell = λ u. []; good = λ names u. Unit {0}; adds = λ
 
 pub without_guarded : (test : State → Bool) (more : ℕ) → Guarded (λ i. test i ≡ false) (without test) more (pure tt)
 without_guarded test more = record {
-    sound = λ names ts x s known h.
-        let w = ok_pair {A = Unit {0}} tt x (names, ts) s h in
-        subst (λ (s : State). Got (without test) more names ts x s) w.1 (record { good = tt; nested = omega arith; spelt = refl; seen = sym (append-nil names); stops = known });
-    complete = λ names x rest g n s. let end : Names → Outcome (Unit {0}) = λ m. Ok (x, (m, rest)) in ap end (sym (append-nil names));
-  }
+  sound = λ names ts x s known h.
+      let w = ok_pair {A = Unit {0}} tt x (names, ts) s h in
+      subst (λ (s : State). Got (without test) more names ts x s) w.1 (record { good = tt; nested = omega arith; spelt = refl; seen = sym (append-nil names); stops = known });
+  complete = λ names x rest g n s. let end : Names → Outcome (Unit {0}) = λ m. Ok (x, (m, rest)) in ap end (sym (append-nil names));
+}
 
 -- what declares names by its first part
 pub declare_two : {A B C : Type 0} (p : Parser A) (q : A → Parser B) (e : A → Names) (f : A → B → C) (i : State)
@@ -662,6 +672,7 @@ declare_two {A} {B} {C} p q e f i = by (p i) where
       ≡ and_then (and_then (and_then o (λ b. pure (a, b))) (λ (t : A × B) j. Ok (t, (j.0 ++ e t.0, j.1)))) (λ t. pure (f t.0 t.1))
   second a (Ok r) = refl
   second a (Err x) = refl
+
   by : (o : Outcome A) → and_then o (λ a. (q a >>= (λ b. pure (f a b))) >>= (λ x. declare (e a) >>= (λ u. pure x)))
       ≡ and_then (and_then (and_then o (λ a. q a >>= (λ b. pure (a, b)))) (λ (t : A × B) j. Ok (t, (j.0 ++ e t.0, j.1)))) (λ t. pure (f t.0 t.1))
   by (Ok r) = second r.0 (q r.0 r.1)

@@ -1,10 +1,10 @@
 -- From exactness, and that what does not stop begins a longer tree, follows that Ok is given at the longest front.
-use Rattle.std.specs.Prelude.{◌≡◌, ℕ, ◌+◌, ◌≤◌, max, Bool, true, false, List, [], ◌∷◌, ◌++◌, Ok, Err, refl}
+use Rattle.std.specs.Prelude.{◌≡◌, ℕ, ◌+◌, [], ◌∷◌, ◌++◌, refl}
 use Rattle.std.proofs.Common.{ap, sym, ◌∙◌, subst, arith, append_assoc, append-nil, ◌⊎◌, inl, inr}
 use Rattle.c_tree.specs.declared.token.Token.{Token}
 use Rattle.c_tree.specs.Levels.Names.{Names}
-use Rattle.c_grammar.specs.Input.{Tokens, State, Outcome, Parser}
-use Rattle.c_grammar.specs.Fronts.{Trees, Begins, IsFront, Found, OkAtFront, SpellingIsUnique, FrontIsUnique}
+use Rattle.c_grammar.specs.Input.{Tokens, State, Parser}
+use Rattle.c_grammar.specs.Fronts.{Trees, Begins, IsFront, OkAtFront, SpellingIsUnique, FrontIsUnique}
 use Rattle.c_grammar.specs.Laws.Form.{Form, Got, Exact, ok_pair}
 
 -- a longer tree, which goes on with the token
@@ -47,8 +47,8 @@ module _ {A : Type 0} (T : Trees A) where
       let w = first_two p q (a ++ r) (b ++ s) h in
       let y1 : Begins T names (front ++ p ∷ b) = subst (λ t. Begins T names (front ++ t ∷ b)) (sym w.0) y in
       let c = same_front names (front ++ p ∷ []) a b r s w.1 (longer_front names front p a x) (longer_front names front p b y1)
-            (λ t u e g. m t u e (subst (λ l. Begins T names (l ++ t ∷ [])) (append_assoc front (p ∷ []) a) g))
-            (λ t u e g. n t u e (subst (λ l. Begins T names (l ++ t ∷ [])) (append_assoc front (p ∷ []) b ∙ ap (λ t. front ++ t ∷ b) w.0) g)) in
+      (λ t u e g. m t u e (subst (λ l. Begins T names (l ++ t ∷ [])) (append_assoc front (p ∷ []) a) g))
+      (λ t u e g. n t u e (subst (λ l. Begins T names (l ++ t ∷ [])) (append_assoc front (p ∷ []) b ∙ ap (λ t. front ++ t ∷ b) w.0) g)) in
       (ap (λ l. p ∷ l) c.0 ∙ ap (λ t. t ∷ b) w.0, c.1)
 
   pub front_unique : FrontIsUnique T
@@ -78,10 +78,10 @@ module _ {A : Type 0} (F : Form A) (stops : Stops F) (reads : ℕ → Parser A) 
 
   front_of : (more : ℕ) (names : Names) (ts : Tokens) (x : A) (s : State) → Got F more names ts x s → IsFront (trees_of F) names ts (F.spell x) s.1
   front_of more names ts x s g = record {
-      whole = g.spelt;
-      begins = record { tree = x; levelled = g.good; others = []; spelt = sym (append-nil (F.spell x)) };
-      longest = λ t r e b. no_longer more names x t r g.good (subst (λ l. F.stop x (names ++ F.adds names x) l) e (subst (λ n. F.stop x n s.1) g.seen g.stops)) b;
-    }
+    whole = g.spelt;
+    begins = record { tree = x; levelled = g.good; others = []; spelt = sym (append-nil (F.spell x)) };
+    longest = λ t r e b. no_longer more names x t r g.good (subst (λ l. F.stop x (names ++ F.adds names x) l) e (subst (λ n. F.stop x n s.1) g.seen g.stops)) b;
+  }
 
   stops_at : (names : Names) (x : A) (rest : Tokens) → F.good names x → ((t : Token) (r : Tokens) → rest ≡ t ∷ r → Begins (trees_of F) names (F.spell x ++ t ∷ []) → ⊥) → F.stop x (names ++ F.adds names x) rest
   stops_at names x [] g most = stops.end names x _ g
@@ -92,12 +92,12 @@ module _ {A : Type 0} (F : Form A) (stops : Stops F) (reads : ℕ → Parser A) 
 
   pub ok_at_front : (more : ℕ) → OkAtFront (trees_of F) more (reads more)
   ok_at_front more = record {
-      comes = λ names ts rest x g n f.
-          ap (λ l. reads more (names, l)) f.whole ∙ (exact more).complete names x rest g n (stops_at names x rest g f.longest);
-      found = λ names ts x s h.
-          let g = (exact more).sound names ts x s h in
-          record { levelled = g.good; nested = g.nested; front = front_of more names ts x s g; names_are = g.seen };
-    }
+    comes = λ names ts rest x g n f.
+        ap (λ l. reads more (names, l)) f.whole ∙ (exact more).complete names x rest g n (stops_at names x rest g f.longest);
+    found = λ names ts x s h.
+        let g = (exact more).sound names ts x s h in
+        record { levelled = g.good; nested = g.nested; front = front_of more names ts x s g; names_are = g.seen };
+  }
 
 -- ---- trees that are levelled where others are
 
@@ -123,9 +123,9 @@ module _ {A : Type 0} (T U : A → Names → Type 0) (spelling : A → Tokens) (
 
   pub ok_to : (more : ℕ) (reads : Parser A) → OkAtFront first more reads → OkAtFront second more reads
   ok_to more reads o = record {
-      comes = λ names ts rest x g n f. o.comes names ts rest x (from names x g) n (front_from names ts (spelling x) rest f);
-      found = λ names ts x s h. let g = o.found names ts x s h in record { levelled = to names x g.levelled; nested = g.nested; front = front_to names ts (spelling x) s.1 g.front; names_are = g.names_are };
-    }
+    comes = λ names ts rest x g n f. o.comes names ts rest x (from names x g) n (front_from names ts (spelling x) rest f);
+    found = λ names ts x s h. let g = o.found names ts x s h in record { levelled = to names x g.levelled; nested = g.nested; front = front_to names ts (spelling x) s.1 g.front; names_are = g.names_are };
+  }
 
   pub unique_to : SpellingIsUnique first → SpellingIsUnique second
   unique_to u names a b ga gb e = u names a b (from names a ga) (from names b gb) e

@@ -1,5 +1,5 @@
 -- A token that goes on with a list begins a longer one: its last item is longer, or another stands at its end.
-use Rattle.std.specs.Prelude.{◌≡◌, ℕ, List, [], ◌∷◌, ◌++◌, map, refl}
+use Rattle.std.specs.Prelude.{◌≡◌, List, [], ◌∷◌, ◌++◌, map}
 use Rattle.std.proofs.Common.{ap, sym, ◌∙◌, subst, append_assoc, append-nil}
 use Rattle.c_tree.specs.declared.token.Token.{Token}
 use Rattle.c_tree.specs.Spelling.Tokens.{joined}
@@ -36,7 +36,10 @@ module _ {S X : Type 0} (I : Items S X) where
   last_longer s names x (y ∷ ys) t g f =
       let r = last_longer (I.step s x) (names ++ I.adds names x) y ys t g.1 f in
       record {
-        head = x; tail = r.head ∷ r.tail; good = (g.0, r.good); tokens = r.tokens;
+        head = x;
+        tail = r.head ∷ r.tail;
+        good = (g.0, r.good);
+        tokens = r.tokens;
         spelt = ap (λ l. I.spell x ++ l) r.spelt ∙ sym (append_assoc (I.spell x) (joined (map I.spell (y ∷ ys))) (t ∷ r.tokens));
       }
 
@@ -46,9 +49,12 @@ module _ {S X : Type 0} (I : Items S X) where
   another s names (x ∷ xs) t g n =
       let names1 : Names = names ++ I.adds names x in
       let m : NewItem (left I (I.step s x) xs) (names1 ++ all_added I names1 xs) t =
-            subst (λ l. NewItem (left I (I.step s x) xs) l t) (sym (append_assoc names (I.adds names x) (all_added I names1 xs))) n in
+      subst (λ l. NewItem (left I (I.step s x) xs) l t) (sym (append_assoc names (I.adds names x) (all_added I names1 xs))) n in
       let r = another (I.step s x) names1 xs t g.1 m in
       record {
-        head = x; tail = r.head ∷ r.tail; good = (g.0, r.good); tokens = r.tokens;
+        head = x;
+        tail = r.head ∷ r.tail;
+        good = (g.0, r.good);
+        tokens = r.tokens;
         spelt = ap (λ l. I.spell x ++ l) r.spelt ∙ sym (append_assoc (I.spell x) (joined (map I.spell xs)) (t ∷ r.tokens));
       }

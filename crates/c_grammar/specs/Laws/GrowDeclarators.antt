@@ -1,9 +1,8 @@
 -- A token that goes on with a declarator begins a longer one.
-use Rattle.std.specs.Prelude.{◌≡◌, ℕ, ◌+◌, ◌≤◌, Bool, true, false, not, ◌&&◌, ◌||◌, if◌then◌else◌, List, [], ◌∷◌, ◌++◌, map, Option, Some, None, is_some, refl}
-use Rattle.std.proofs.Common.{ap, sym, ◌∙◌, subst, cond, append_assoc, append-nil, ◌⊎◌, inl, inr}
+use Rattle.std.specs.Prelude.{◌≡◌, ℕ, Bool, true, false, ◌&&◌, ◌||◌, List, [], ◌∷◌, ◌++◌, map, Some, refl}
+use Rattle.std.proofs.Common.{ap, sym, ◌∙◌, subst, append_assoc, append-nil, ◌⊎◌, inl, inr}
 use denote.Hole.Carrier.{out}
 use Rattle.c_tree.specs.declared.token.Pos.{Pos}
-use Rattle.c_tree.specs.declared.token.Punct.{Punct}
 use Rattle.c_tree.specs.declared.token.Punct.TheVariants as p
 use Rattle.c_tree.specs.declared.token.Keyword.{Keyword}
 use Rattle.c_tree.specs.declared.token.Keyword.TheVariants as word
@@ -12,7 +11,7 @@ use Rattle.c_tree.specs.declared.token.TokenKind.{TokenKind}
 use Rattle.c_tree.specs.declared.token.TokenKind.TheVariants as k
 use Rattle.c_tree.specs.declared.expression.Identifier.{Identifier}
 use Rattle.c_tree.specs.declared.declarator.Pointer.{Pointer}
-use Rattle.c_tree.specs.declared.declarator.Declarator.{Declarator, out-Declarator, roll-out-Declarator}
+use Rattle.c_tree.specs.declared.declarator.Declarator.{Declarator, roll-out-Declarator}
 use Rattle.c_tree.specs.declared.declarator.Direct.{Direct, out-Direct}
 use Rattle.c_tree.specs.declared.declarator.Direct.TheVariants as direct
 use Rattle.c_tree.specs.declared.declarator.DeclaratorSuffix.{DeclaratorSuffix}
@@ -21,20 +20,19 @@ use Rattle.c_tree.specs.Spelling.Tokens.{token, punct, keyword, consts, name as 
 use Rattle.c_tree.specs.Spelling.Trees.{declarator_spelling, direct_spelling, declarator_suffix_spelling, direct_spelling-Nothing, direct_spelling-Named, direct_spelling-Grouped, declarator_suffix_spelling-Array, declarator_suffix_spelling-Empty}
 use Rattle.c_tree.specs.Levels.Names.{Names}
 use Rattle.c_tree.specs.Levels.Facts.{Use, Declaring, Abstract, Parameter, declares}
-use Rattle.c_tree.specs.Levels.Trees.{declarator_level, direct_level, declarator_suffix_level, direct_level-Nothing, direct_level-Named, declarator_suffix_level-Array, declarator_suffix_level-Empty}
-use Rattle.c_grammar.specs.Input.{Tokens, State, peek, behind as behind_of, is_mark, sees}
+use Rattle.c_tree.specs.Levels.Trees.{declarator_level, direct_level, direct_level-Nothing, declarator_suffix_level-Array, declarator_suffix_level-Empty}
+use Rattle.c_grammar.specs.Input.{Tokens, peek, behind as behind_of, is_mark, sees}
 use Rattle.c_grammar.specs.Read.Inner.{is_const}
 use Rattle.c_grammar.specs.Read.Declarators.{takes_name, opens_declarator}
 use Rattle.c_grammar.specs.Laws.Form.{Form}
-use Rattle.c_grammar.specs.Laws.Lists.{Items, all_good, all_added, all_stop, last_of, left, stop_goes, stop_last, stop_made}
+use Rattle.c_grammar.specs.Laws.Lists.{all_added, all_stop, last_of, stop_goes, stop_last, stop_made}
 use Rattle.c_grammar.specs.Laws.Cases.{DirectShape, direct_shape}
-use Rattle.c_grammar.specs.Laws.Behind.{both_true, both_are}
 use Rattle.c_grammar.specs.Laws.Starts.{peek_first}
 use Rattle.c_grammar.specs.Laws.Front.{Longer, Stops}
 use Rattle.c_grammar.specs.Laws.Grow.{LongerItem, NewItem, LongerList, last_longer, another}
 use Rattle.c_grammar.specs.Laws.GrowSpecifiers.{mark_kind}
-use Rattle.c_grammar.specs.Laws.Forms.{pointer_spelling, pointer_items, nothing_stop, is_no_name, middle_form, behind_items, parts_form, parts_of, declarator_form}
-use Rattle.c_grammar.specs.Laws.Pointers.{pointers_good, pointers_quiet}
+use Rattle.c_grammar.specs.Laws.Forms.{pointer_spelling, pointer_items, nothing_stop, is_no_name, behind_items, parts_form, parts_of, declarator_form}
+use Rattle.c_grammar.specs.Laws.Pointers.{pointers_quiet}
 use Rattle.c_grammar.specs.Laws.Middle.{name_seen}
 use Rattle.c_grammar.specs.Laws.Declarators.{declarator_of, declarator_good, declarator_parts, declarator_node}
 
@@ -48,11 +46,19 @@ sees_suffix kind = is_mark p.LeftBracket (Some kind) || is_mark p.LeftParen (Som
 
 suffix_by : (names : Names) (t : Token) (b : Bool) → is_mark p.LeftBracket (Some t.kind) ≡ b → (b || is_mark p.LeftParen (Some t.kind)) ≡ true → NewItem behind_items tt names t
 suffix_by names t true e h =
-    record { item = suffix.Array t.place t.place; good = ap (λ f. (f names).0.good) (declarator_suffix_level-Array t.place t.place); tokens = _;
-      spelt = declarator_suffix_spelling-Array t.place t.place ∙ ap (λ (u : Token). u ∷ (punct p.RightBracket t.place ∷ [])) (token_is t (k.Punct p.LeftBracket) (mark_kind p.LeftBracket t.kind e)) }
+    record {
+      item = suffix.Array t.place t.place;
+      good = ap (λ f. (f names).0.good) (declarator_suffix_level-Array t.place t.place);
+      tokens = _;
+      spelt = declarator_suffix_spelling-Array t.place t.place ∙ ap (λ (u : Token). u ∷ (punct p.RightBracket t.place ∷ [])) (token_is t (k.Punct p.LeftBracket) (mark_kind p.LeftBracket t.kind e));
+    }
 suffix_by names t false e h =
-    record { item = suffix.Empty t.place t.place; good = ap (λ f. (f names).0.good) (declarator_suffix_level-Empty t.place t.place); tokens = _;
-      spelt = declarator_suffix_spelling-Empty t.place t.place ∙ ap (λ (u : Token). u ∷ (punct p.RightParen t.place ∷ [])) (token_is t (k.Punct p.LeftParen) (mark_kind p.LeftParen t.kind h)) }
+    record {
+      item = suffix.Empty t.place t.place;
+      good = ap (λ f. (f names).0.good) (declarator_suffix_level-Empty t.place t.place);
+      tokens = _;
+      spelt = declarator_suffix_spelling-Empty t.place t.place ∙ ap (λ (u : Token). u ∷ (punct p.RightParen t.place ∷ [])) (token_is t (k.Punct p.LeftParen) (mark_kind p.LeftParen t.kind h));
+    }
 
 -- ---- longer pointers
 
@@ -73,8 +79,12 @@ const_kind (k.Bytes bytes) h = absurd cc
 
 pointer_longer : (names : Names) (q : Pointer) (t : Token) → is_const (Some t.kind) ≡ true → LongerItem pointer_items tt names q t
 pointer_longer names q t e =
-    record { item = record { star = q.star; constants = q.constants ++ t.place ∷ [] }; good = tt; tokens = [];
-      spelt = ap (λ l. punct p.Star q.star ∷ l) (consts_snoc q.constants t.place ∙ ap (λ (u : Token). consts q.constants ++ u ∷ []) (token_is t (k.Keyword word.Const) (const_kind t.kind e))) }
+    record {
+      item = record { star = q.star; constants = q.constants ++ t.place ∷ [] };
+      good = tt;
+      tokens = [];
+      spelt = ap (λ l. punct p.Star q.star ∷ l) (consts_snoc q.constants t.place ∙ ap (λ (u : Token). consts q.constants ++ u ∷ []) (token_is t (k.Keyword word.Const) (const_kind t.kind e)));
+    }
 
 star_new : (names : Names) (t : Token) → is_mark p.Star (Some t.kind) ≡ true → NewItem pointer_items tt names t
 star_new names t e = record { item = record { star = t.place; constants = [] }; good = tt; tokens = []; spelt = ap (λ (u : Token). u ∷ []) (token_is t (k.Punct p.Star) (mark_kind p.Star t.kind e)) }
@@ -137,11 +147,11 @@ module _ (purpose : Use) (typed : Bool) where
   -- longer parts make a longer declarator
   made : (names : Names) (a b : Parts) (t : Token) (tokens : Tokens) → P.good names b → P.spell b ≡ P.spell a ++ t ∷ tokens → Longer (declarator_form purpose typed) names (declarator_of a) t
   made names a b t tokens g e = record {
-      tree = declarator_of b;
-      good = declarator_good purpose typed names b g;
-      tokens = tokens;
-      spelt = (declarator_node purpose typed).spelt b ∙ e ∙ ap (λ l. l ++ t ∷ tokens) (sym ((declarator_node purpose typed).spelt a));
-    }
+    tree = declarator_of b;
+    good = declarator_good purpose typed names b g;
+    tokens = tokens;
+    spelt = (declarator_node purpose typed).spelt b ∙ e ∙ ap (λ l. l ++ t ∷ tokens) (sym ((declarator_node purpose typed).spelt a));
+  }
 
   with_suffix : (names : Names) (stars : List Pointer) (d : Direct) (xs : List DeclaratorSuffix) (t : Token) → P.good names ((stars, d), xs) → sees_suffix t.kind ≡ true → Longer (declarator_form purpose typed) names (declarator_of ((stars, d), xs)) t
   with_suffix names stars d xs t g h =
@@ -164,7 +174,7 @@ module _ (purpose : Use) (typed : Bool) where
       made names ((stars, direct.Nothing), []) ((stars, direct.Named id), []) t []
       ((g.0.0, name_seen purpose typed names1 id (subst (λ kind. takes_name purpose typed names1 (Some kind) ≡ true) (sym w.1) h)), tt)
       (append-nil (joined (map pointer_spelling stars) ++ direct_spelling (direct.Named id)) ∙ ap (λ l. joined (map pointer_spelling stars) ++ l) (direct_spelling-Named id ∙ ap (λ (u : Token). u ∷ []) (token_is t (k.Name w.0) w.1))
-        ∙ ap (λ l. l ++ t ∷ []) (sym (bare_spell stars)))
+      ∙ ap (λ l. l ++ t ∷ []) (sym (bare_spell stars)))
 
   with_pointers : (names : Names) (stars : List Pointer) (t : Token) → P.good names ((stars, direct.Nothing), []) → LongerList pointer_items tt names stars t → Longer (declarator_form purpose typed) names (declarator_of ((stars, direct.Nothing), [])) t
   with_pointers names stars t g m =
@@ -182,10 +192,16 @@ module _ (purpose : Use) (typed : Bool) where
 
   bare_stop : (stars : List Pointer) (behind : Names) (t : Token) (rest : Tokens) → sees_suffix t.kind ≡ false → takes_name purpose typed behind (Some t.kind) ≡ false → all_stop pointer_items tt stars behind (t ∷ rest)
       → P.stop ((stars, direct.Nothing), []) behind (t ∷ rest)
-  bare_stop stars behind t rest h n s =
-      ((subst (λ b. nothing_stop b purpose typed behind (t ∷ rest)) (sym nothing_is_none)
-        (ap (λ o. is_mark p.LeftParen o && opens_declarator purpose behind (peek (behind_of (t ∷ rest)))) (peek_first t rest) ∙ ap (λ b. b && opens_declarator purpose behind (peek (behind_of (t ∷ rest)))) (or_right (is_mark p.LeftBracket (Some t.kind)) (is_mark p.LeftParen (Some t.kind)) h),
-          ap (takes_name purpose typed behind) (peek_first t rest) ∙ n), λ z. s), no_suffix behind t rest h)
+  bare_stop stars behind t rest h n s = (
+    (
+      subst (λ b. nothing_stop b purpose typed behind (t ∷ rest)) (sym nothing_is_none) (
+        ap (λ o. is_mark p.LeftParen o && opens_declarator purpose behind (peek (behind_of (t ∷ rest)))) (peek_first t rest) ∙ ap (λ b. b && opens_declarator purpose behind (peek (behind_of (t ∷ rest)))) (or_right (is_mark p.LeftBracket (Some t.kind)) (is_mark p.LeftParen (Some t.kind)) h),
+        ap (takes_name purpose typed behind) (peek_first t rest) ∙ n,
+      ),
+      λ z. s,
+    ),
+    no_suffix behind t rest h,
+  )
 
   -- pointers and nothing declare nothing
   star_names : (names : Names) (stars : List Pointer) → names ++ all_added pointer_items names stars ≡ names
@@ -194,7 +210,7 @@ module _ (purpose : Use) (typed : Bool) where
   bare_names : (names : Names) (stars : List Pointer) → names ++ P.adds names ((stars, direct.Nothing), []) ≡ names
   bare_names names stars =
       ap (λ l. names ++ l) (append-nil (all_added pointer_items names stars ++ (direct_level direct.Nothing (names ++ all_added pointer_items names stars)).1)
-        ∙ ap (λ f. all_added pointer_items names stars ++ (f (names ++ all_added pointer_items names stars)).1) direct_level-Nothing ∙ append-nil (all_added pointer_items names stars))
+      ∙ ap (λ f. all_added pointer_items names stars ++ (f (names ++ all_added pointer_items names stars)).1) direct_level-Nothing ∙ append-nil (all_added pointer_items names stars))
       ∙ star_names names stars
 
   abbrev Answer : Names → Parts → Token → Tokens → Type 0
@@ -208,7 +224,7 @@ module _ (purpose : Use) (typed : Bool) where
       inr (with_pointers names (q ∷ qs) t g (last_longer pointer_items tt names q qs t g.0.0 (λ u names go. pointer_longer names (last_of pointer_items q qs) t e)))
   by_const names (q ∷ qs) t rest false g h n s e =
       inl (bare_stop (q ∷ qs) _ t rest h (subst (λ m. takes_name purpose typed m (Some t.kind) ≡ false) (sym (bare_names names (q ∷ qs))) n)
-        (stop_made pointer_items tt q qs _ (t ∷ rest) (ap is_const (peek_first t rest) ∙ e) (ap (is_mark p.Star) (peek_first t rest) ∙ s)))
+      (stop_made pointer_items tt q qs _ (t ∷ rest) (ap is_const (peek_first t rest) ∙ e) (ap (is_mark p.Star) (peek_first t rest) ∙ s)))
 
   by_star : (names : Names) (stars : List Pointer) (t : Token) (rest : Tokens) (c : Bool) → P.good names ((stars, direct.Nothing), []) → sees_suffix t.kind ≡ false → takes_name purpose typed names (Some t.kind) ≡ false
       → is_mark p.Star (Some t.kind) ≡ c → Answer names ((stars, direct.Nothing), []) t rest
@@ -261,9 +277,10 @@ module _ (purpose : Use) (typed : Bool) where
   suffix_next behind t a b h = ap (λ o. is_mark p.LeftBracket o || is_mark p.LeftParen o) (peek_first t b) ∙ sym (ap (λ o. is_mark p.LeftBracket o || is_mark p.LeftParen o) (peek_first t a)) ∙ h
 
   nothing_next : (c : Bool) (behind : Names) (t : Token) (a b : Tokens) → (sees p.LeftBracket (behind, t ∷ b) || sees p.LeftParen (behind, t ∷ b)) ≡ false → nothing_stop c purpose typed behind (t ∷ a) → nothing_stop c purpose typed behind (t ∷ b)
-  nothing_next true behind t a b h s =
-      (ap (λ c. c && opens_declarator purpose behind (peek (behind_of (t ∷ b)))) (or_right (sees p.LeftBracket (behind, t ∷ b)) (sees p.LeftParen (behind, t ∷ b)) h),
-        ap (takes_name purpose typed behind) (peek_first t b) ∙ sym (ap (takes_name purpose typed behind) (peek_first t a)) ∙ s.1)
+  nothing_next true behind t a b h s = (
+    ap (λ c. c && opens_declarator purpose behind (peek (behind_of (t ∷ b)))) (or_right (sees p.LeftBracket (behind, t ∷ b)) (sees p.LeftParen (behind, t ∷ b)) h),
+    ap (takes_name purpose typed behind) (peek_first t b) ∙ sym (ap (takes_name purpose typed behind) (peek_first t a)) ∙ s.1,
+  )
   nothing_next false behind t a b h s = tt
 
   next_only : (stars : List Pointer) (d : Direct) (xs : List DeclaratorSuffix) (behind : Names) (t : Token) (a b : Tokens) → P.stop ((stars, d), xs) behind (t ∷ a) → P.stop ((stars, d), xs) behind (t ∷ b)
@@ -282,7 +299,7 @@ module _ (purpose : Use) (typed : Bool) where
 
   pub declarator_stops : Stops (declarator_form purpose typed)
   declarator_stops = record {
-      next = λ names d behind t a b g h. next_only (parts_of d).0.0 (parts_of d).0.1 (parts_of d).1 behind t a b h;
-      end = λ names d behind g. at_end (parts_of d).0.0 (parts_of d).0.1 (parts_of d).1 behind;
-      grows = grows;
-    }
+    next = λ names d behind t a b g h. next_only (parts_of d).0.0 (parts_of d).0.1 (parts_of d).1 behind t a b h;
+    end = λ names d behind g. at_end (parts_of d).0.0 (parts_of d).0.1 (parts_of d).1 behind;
+    grows = grows;
+  }

@@ -1,6 +1,6 @@
 -- A token that goes on with an expression begins a longer one.
-use Rattle.std.specs.Prelude.{◌≡◌, ℕ, zero, suc, ◌+◌, ◌≤◌, ◌<◌, max, Bool, true, false, not, ◌&&◌, ◌||◌, if◌then◌else◌, nat_le, List, [], ◌∷◌, ◌++◌, map, Option, Some, None, refl}
-use Rattle.std.proofs.Common.{ap, sym, ◌∙◌, subst, cond, arith, append_assoc, append-nil, ◌⊎◌, inl, inr}
+use Rattle.std.specs.Prelude.{◌≡◌, ℕ, ◌+◌, ◌≤◌, ◌<◌, Bool, true, false, not, ◌&&◌, nat_le, List, [], ◌∷◌, ◌++◌, map, Option, Some, refl}
+use Rattle.std.proofs.Common.{ap, sym, ◌∙◌, subst, cond, arith, append_assoc}
 use Rattle.c_tree.specs.declared.token.Pos.{Pos}
 use Rattle.c_tree.specs.declared.token.Punct.{Punct}
 use Rattle.c_tree.specs.declared.token.Punct.TheVariants as p
@@ -10,7 +10,6 @@ use Rattle.c_tree.specs.declared.token.TokenKind.{TokenKind}
 use Rattle.c_tree.specs.declared.token.TokenKind.TheVariants as k
 use Rattle.c_tree.specs.declared.expression.Identifier.{Identifier}
 use Rattle.c_tree.specs.declared.expression.Literal.{Literal}
-use Rattle.c_tree.specs.declared.expression.Mark.{Mark}
 use Rattle.c_tree.specs.declared.expression.Level.{Level}
 use Rattle.c_tree.specs.declared.expression.Level.TheVariants as level
 use Rattle.c_tree.specs.declared.expression.Expr.{Expr}
@@ -18,31 +17,30 @@ use Rattle.c_tree.specs.declared.expression.Expr.TheVariants as expr
 use Rattle.c_tree.specs.declared.expression.Suffix.{Suffix}
 use Rattle.c_tree.specs.declared.expression.Suffix.TheVariants as suffix
 use Rattle.c_tree.specs.declared.expression.Prefix.{Prefix}
-use Rattle.c_tree.specs.declared.expression.Next.{Next, out-Next, roll-Next}
+use Rattle.c_tree.specs.declared.expression.Next.{Next, roll-Next}
 use Rattle.c_tree.specs.declared.expression.Branch.{Branch, out-Branch, roll-Branch}
 use Rattle.c_tree.specs.Spelling.Tokens.{token, punct, mark, literal, literals, joined}
-use Rattle.c_tree.specs.Spelling.Trees.{expr_spelling, suffix_spelling, prefix_spelling, next_spelling, branch_spelling, next_spelling-is, branch_spelling-is, expr_spelling-Number, expr_spelling-Strings, expr_spelling-Postfix, suffix_spelling-Index, suffix_spelling-Call, suffix_spelling-Member, suffix_spelling-Arrow, suffix_spelling-Increment, suffix_spelling-Decrement}
+use Rattle.c_tree.specs.Spelling.Trees.{expr_spelling, suffix_spelling, prefix_spelling, next_spelling, branch_spelling, next_spelling-is, branch_spelling-is, expr_spelling-Strings, suffix_spelling-Index, suffix_spelling-Call, suffix_spelling-Member, suffix_spelling-Arrow, suffix_spelling-Increment, suffix_spelling-Decrement}
 use Rattle.c_tree.specs.Levels.Names.{Names}
-use Rattle.c_tree.specs.Levels.Productions.{primary, postfix, prefixed, unary, cast, product, or, conditional, assignment, comma, none, joins, of_level, below}
-use Rattle.c_tree.specs.Levels.Facts.{same, filled, where_good}
-use Rattle.c_tree.specs.Levels.Trees.{expr_level, suffix_level, next_level, branch_level, branch_level-is, expr_level-Number, expr_level-Strings, expr_level-Paren, suffix_level-Index, suffix_level-Call, suffix_level-Member, suffix_level-Arrow, suffix_level-Increment, suffix_level-Decrement}
-use Rattle.c_grammar.specs.Input.{Tokens, State, peek, joins_with, goes}
+use Rattle.c_tree.specs.Levels.Productions.{primary, postfix, prefixed, cast, or, conditional, assignment, comma, none, joins, of_level, below}
+use Rattle.c_tree.specs.Levels.Facts.{same, filled}
+use Rattle.c_tree.specs.Levels.Trees.{expr_level, branch_level, branch_level-is, expr_level-Number, expr_level-Strings, suffix_level-Index, suffix_level-Call, suffix_level-Member, suffix_level-Arrow, suffix_level-Increment, suffix_level-Decrement}
+use Rattle.c_grammar.specs.Input.{Tokens}
 use Rattle.c_grammar.specs.Read.Nodes.{with_suffixes, with_run, with_operands, with_branches, with_targets, with_commas, is_unary, begins_cast}
-use Rattle.c_grammar.specs.Ending.OfTrees.{Ending, plain, last, no_target, run_target}
-use Rattle.c_grammar.specs.Ending.Trees.{expr_ending, next_ending, branch_ending, prefix_ending, expr_ending-Name, expr_ending-Number, expr_ending-Char, expr_ending-Paren, expr_ending-Strings, expr_ending-Postfix, expr_ending-Prefixed, expr_ending-SizeofType, expr_ending-Conditional, expr_ending-Assign}
-use Rattle.c_grammar.specs.Laws.Form.{Form, Split, Joint}
+use Rattle.c_grammar.specs.Ending.OfTrees.{Ending, no_target, run_target}
+use Rattle.c_grammar.specs.Ending.Trees.{expr_ending, prefix_ending, expr_ending-Name, expr_ending-Number, expr_ending-Char, expr_ending-Paren, expr_ending-Postfix, expr_ending-Prefixed, expr_ending-SizeofType, expr_ending-Conditional, expr_ending-Assign}
 use Rattle.c_grammar.specs.Laws.Lists.{Items, all_good, all_added, last_of, left}
 use Rattle.c_grammar.specs.Laws.Cases.{ExprShape, expr_shape}
-use Rattle.c_grammar.specs.Laws.Behind.{goes_by, goes_on, expr_form, both_true, both_are, nat_le-true, nat_le-is, nat_le-false, same-true, same-itself, good_of, where_is, joins_above, goes_above, over_gap, retarget}
-use Rattle.c_grammar.specs.Laws.Numbers.{shape_number, number_within, tighter, level_low, below_level}
+use Rattle.c_grammar.specs.Laws.Behind.{goes_on, expr_form, both_true, both_are, nat_le-true, nat_le-is, nat_le-false, same-itself, where_is, joins_above, goes_above, over_gap, retarget}
+use Rattle.c_grammar.specs.Laws.Numbers.{number_within, tighter, level_low, below_level}
 use Rattle.c_grammar.specs.Laws.Front.{Longer}
 use Rattle.c_grammar.specs.Laws.Operators.{operand_of, operator_of, next_items, last_ending}
 use Rattle.c_grammar.specs.Laws.Levels.{Row, flat, no_target_to, row_good, row_split, row_spelt, binary_row, comma_row}
-use Rattle.c_grammar.specs.Laws.Unary.{prefix_items, run_form, run_good, run_split, run_spelt, sized, sized_stop}
-use Rattle.c_grammar.specs.Laws.Conditional.{branch_items, conditional_form, conditional_good, conditional_split, conditional_spelt, branch_last}
-use Rattle.c_grammar.specs.Laws.Assignment.{target_items, target_is, assign_form, assign_good, assign_split, assign_spelt, left_unary, last_good}
+use Rattle.c_grammar.specs.Laws.Unary.{prefix_items, run_good, run_split, run_spelt, sized, sized_stop}
+use Rattle.c_grammar.specs.Laws.Conditional.{branch_items, conditional_good, conditional_split, conditional_spelt, branch_last}
+use Rattle.c_grammar.specs.Laws.Assignment.{target_items, target_is, assign_good, assign_split, assign_spelt, left_unary, last_good}
 use Rattle.c_grammar.specs.Laws.Grow.{LongerItem, NewItem, LongerList, last_longer, another}
-use Rattle.c_grammar.specs.Laws.Postfix.{suffix_items, postfix_form, postfix_split, postfix_good, postfix_spelt, above_primary, run_high, primary_size}
+use Rattle.c_grammar.specs.Laws.Postfix.{suffix_items, postfix_form, postfix_split, postfix_good, postfix_spelt, above_primary, run_high}
 
 -- a token that goes on with an expression of the production begins a longer one
 abbrev pub Grows : ℕ → Type 0
@@ -206,11 +204,11 @@ grows_cast names x t g h =
     let d = under_gap (expr_ending a) (Some t.kind) (operand_goes_by run a (Some t.kind) (nat_le (goes_on (expr_ending a) (Some t.kind)) cast) refl h1) in
     let l = prefixed_by (expr_shape a) (names ++ all_added prefix_items names run) t s.good.1 d in
     let made : Longer (expr_form cast) names (with_run run a) t = record {
-          tree = with_run run l.tree;
-          good = run_good names run l.tree (s.good.0, l.good);
-          tokens = l.tokens;
-          spelt = run_spelt run l.tree ∙ ap (λ r. joined (map prefix_spelling run) ++ r) l.spelt ∙ sym (append_assoc (joined (map prefix_spelling run)) (expr_spelling a) (t ∷ l.tokens)) ∙ ap (λ r. r ++ t ∷ l.tokens) (sym (run_spelt run a));
-        } in
+      tree = with_run run l.tree;
+      good = run_good names run l.tree (s.good.0, l.good);
+      tokens = l.tokens;
+      spelt = run_spelt run l.tree ∙ ap (λ r. joined (map prefix_spelling run) ++ r) l.spelt ∙ sym (append_assoc (joined (map prefix_spelling run)) (expr_spelling a) (t ∷ l.tokens)) ∙ ap (λ r. r ++ t ∷ l.tokens) (sym (run_spelt run a));
+    } in
     subst (λ y. Longer (expr_form cast) names y t) s.whole made
 
 -- ---- an operator of a production
@@ -264,12 +262,12 @@ module _ (level within : ℕ) (make : Expr → List Next → Expr) (turn : Endin
 
   with_list : (names : Names) (a : Expr) (ns : List Next) (t : Token) → (expr_level a names).0 ≤ within → LongerList items tt (names ++ (expr_level a names).1) ns t → Longer (expr_form level) names (make a ns) t
   with_list names a ns t g m = record {
-      tree = make a (m.head ∷ m.tail);
-      good = row_good level within make turn row above high low no_assignment names a (m.head ∷ m.tail) (g, m.good);
-      tokens = m.tokens;
-      spelt = row_spelt level within make turn row above high low no_assignment a (m.head ∷ m.tail) ∙ ap (λ l. expr_spelling a ++ l) m.spelt
-          ∙ sym (append_assoc (expr_spelling a) (joined (map next_spelling ns)) (t ∷ m.tokens)) ∙ ap (λ l. l ++ t ∷ m.tokens) (sym (row_spelt level within make turn row above high low no_assignment a ns));
-    }
+    tree = make a (m.head ∷ m.tail);
+    good = row_good level within make turn row above high low no_assignment names a (m.head ∷ m.tail) (g, m.good);
+    tokens = m.tokens;
+    spelt = row_spelt level within make turn row above high low no_assignment a (m.head ∷ m.tail) ∙ ap (λ l. expr_spelling a ++ l) m.spelt
+        ∙ sym (append_assoc (expr_spelling a) (joined (map next_spelling ns)) (t ∷ m.tokens)) ∙ ap (λ l. l ++ t ∷ m.tokens) (sym (row_spelt level within make turn row above high low no_assignment a ns));
+  }
 
   row_by : (names : Names) (a : Expr) (ns : List Next) (t : Token) → (expr_level a names).0 ≤ within → all_good items tt (names ++ (expr_level a names).1) ns → goes_on (expr_ending (make a ns)) (Some t.kind) ≤ level
       → (b : Bool) → nat_le (goes_on (expr_ending (make a ns)) (Some t.kind)) within ≡ b → Longer (expr_form level) names (make a ns) t
@@ -281,12 +279,12 @@ module _ (level within : ℕ) (make : Expr → List Next → Expr) (turn : Endin
       let h1 = subst (λ e. goes_on e (Some t.kind) ≤ within) (row.ends a n ns) (nat_le-true (goes_on (expr_ending (make a (n ∷ ns))) (Some t.kind)) within e) in
       let h2 : goes_on (expr_ending x) (Some t.kind) ≤ within = subst (λ e. goes_on e (Some t.kind) ≤ within) (last_ending (Unit {0}) items (expr_ending a) n ns) (turn_low _ (Some t.kind) h1) in
       with_list names a (n ∷ ns) t g (last_longer items tt (names ++ (expr_level a names).1) n ns t gs (λ s names go.
-        let l = tight names x t go.1 h2 in
-        record { item = roll-Next (record { operator = operator_of (last_of items n ns); operand = l.tree }); good = (go.0, l.good); tokens = l.tokens; spelt = next_longer (last_of items n ns) t l.tree l.tokens l.spelt }))
+      let l = tight names x t go.1 h2 in
+      record { item = roll-Next (record { operator = operator_of (last_of items n ns); operand = l.tree }); good = (go.0, l.good); tokens = l.tokens; spelt = next_longer (last_of items n ns) t l.tree l.tokens l.spelt }))
   row_by names a ns t g gs h false e =
       let o = operator_is (expr_ending (make a ns)) t.kind within level above low (nat_le-false (goes_on (expr_ending (make a ns)) (Some t.kind)) within e) h in
       with_list names a ns t g (another items tt (names ++ (expr_level a names).1) ns t gs
-        (record { item = next_at o.op t.place; good = (o.joins_is, number_within_any _ t.place within); tokens = _; spelt = next_new o.op t o.is }))
+      (record { item = next_at o.op t.place; good = (o.joins_is, number_within_any _ t.place within); tokens = _; spelt = next_new o.op t o.is }))
 
   grows_row : Grows level
   grows_row names x t g h =
@@ -323,11 +321,11 @@ branch_at at = roll-Branch (record { question = at; gives = expr.Number 0 Int at
 
 with_branch_list : (names : Names) (a : Expr) (bs : List Branch) (t : Token) → (expr_level a names).0 ≤ or → LongerList branch_items tt (names ++ (expr_level a names).1) bs t → Longer (expr_form conditional) names (with_branches a bs) t
 with_branch_list names a bs t g m = record {
-    tree = with_branches a (m.head ∷ m.tail);
-    good = conditional_good names a (m.head ∷ m.tail) (g, m.good);
-    tokens = m.tokens;
-    spelt = conditional_spelt a (m.head ∷ m.tail) ∙ ap (λ l. expr_spelling a ++ l) m.spelt ∙ sym (append_assoc (expr_spelling a) (joined (map branch_spelling bs)) (t ∷ m.tokens)) ∙ ap (λ l. l ++ t ∷ m.tokens) (sym (conditional_spelt a bs));
-  }
+  tree = with_branches a (m.head ∷ m.tail);
+  good = conditional_good names a (m.head ∷ m.tail) (g, m.good);
+  tokens = m.tokens;
+  spelt = conditional_spelt a (m.head ∷ m.tail) ∙ ap (λ l. expr_spelling a ++ l) m.spelt ∙ sym (append_assoc (expr_spelling a) (joined (map branch_spelling bs)) (t ∷ m.tokens)) ∙ ap (λ l. l ++ t ∷ m.tokens) (sym (conditional_spelt a bs));
+}
 
 branch_good : (names : Names) (b : Branch) → (expr_level (out-Branch b).gives names).0 ≤ comma → (expr_level (out-Branch b).operand (names ++ (expr_level (out-Branch b).gives names).1)).0 ≤ or → (branch_level b names).0 ≡ true
 branch_good names b g h = ap (λ f. (f names).0) (branch_level-is b) ∙ both_are _ _ (nat_le-is (expr_level (out-Branch b).gives names).0 comma g) (nat_le-is (expr_level (out-Branch b).operand (names ++ (expr_level (out-Branch b).gives names).1)).0 or h)
@@ -382,11 +380,11 @@ grows_conditional names x t g h =
 
 with_target_list : (names : Names) (a : Expr) (ns : List Next) (t : Token) → (expr_level a names).0 ≤ conditional → LongerList target_items (is_unary a) (names ++ (expr_level a names).1) ns t → Longer (expr_form assignment) names (with_targets a ns) t
 with_target_list names a ns t g m = record {
-    tree = with_targets a (m.head ∷ m.tail);
-    good = assign_good names a (m.head ∷ m.tail) (g, m.good);
-    tokens = m.tokens;
-    spelt = assign_spelt a (m.head ∷ m.tail) ∙ ap (λ l. expr_spelling a ++ l) m.spelt ∙ sym (append_assoc (expr_spelling a) (joined (map next_spelling ns)) (t ∷ m.tokens)) ∙ ap (λ l. l ++ t ∷ m.tokens) (sym (assign_spelt a ns));
-  }
+  tree = with_targets a (m.head ∷ m.tail);
+  good = assign_good names a (m.head ∷ m.tail) (g, m.good);
+  tokens = m.tokens;
+  spelt = assign_spelt a (m.head ∷ m.tail) ∙ ap (λ l. expr_spelling a ++ l) m.spelt ∙ sym (append_assoc (expr_spelling a) (joined (map next_spelling ns)) (t ∷ m.tokens)) ∙ ap (λ l. l ++ t ∷ m.tokens) (sym (assign_spelt a ns));
+}
 
 target_of : (t : Bool) (j : ℕ) → j ≡ assignment → (not t && same j assignment) ≡ false → t ≡ true
 target_of true j e h = refl
@@ -404,15 +402,15 @@ assign_by names a [] t g gs h true e = looser conditional assignment names a t (
 assign_by names a (n ∷ ns) t g gs h true e =
     let x : Expr = operand_of (last_of target_items n ns) in
     let h1 : goes_on (expr_ending x) (Some t.kind) ≤ conditional =
-          subst (λ e. goes_on e (Some t.kind) ≤ conditional) (expr_ending-Assign a (n ∷ ns) ∙ last_ending Bool target_items (expr_ending a) n ns) (nat_le-true (goes_on (expr_ending (with_targets a (n ∷ ns))) (Some t.kind)) conditional e) in
+    subst (λ e. goes_on e (Some t.kind) ≤ conditional) (expr_ending-Assign a (n ∷ ns) ∙ last_ending Bool target_items (expr_ending a) n ns) (nat_le-true (goes_on (expr_ending (with_targets a (n ∷ ns))) (Some t.kind)) conditional e) in
     with_target_list names a (n ∷ ns) t g (last_longer target_items (is_unary a) (names ++ (expr_level a names).1) n ns t gs (λ s names go.
-      let l = grows_conditional names x t go.1.1 h1 in
-      record { item = roll-Next (record { operator = operator_of (last_of target_items n ns); operand = l.tree }); good = (go.0, (go.1.0, l.good)); tokens = l.tokens; spelt = next_longer (last_of target_items n ns) t l.tree l.tokens l.spelt }))
+    let l = grows_conditional names x t go.1.1 h1 in
+    record { item = roll-Next (record { operator = operator_of (last_of target_items n ns); operand = l.tree }); good = (go.0, (go.1.0, l.good)); tokens = l.tokens; spelt = next_longer (last_of target_items n ns) t l.tree l.tokens l.spelt }))
 assign_by names a ns t g gs h false e =
     let o = operator_is (expr_ending (with_targets a ns)) t.kind conditional assignment (omega arith) (omega arith) (nat_le-false (goes_on (expr_ending (with_targets a ns)) (Some t.kind)) conditional e) h in
     let u = sym (ends_unary names a ns g gs) ∙ target_of (expr_ending (with_targets a ns)).target (joins o.op) o.joins_is o.target in
     with_target_list names a ns t g (another target_items (is_unary a) (names ++ (expr_level a names).1) ns t gs
-      (record { item = next_at o.op t.place; good = (u, (o.joins_is, number_within_any _ t.place conditional)); tokens = _; spelt = next_new o.op t o.is }))
+    (record { item = next_at o.op t.place; good = (u, (o.joins_is, number_within_any _ t.place conditional)); tokens = _; spelt = next_new o.op t o.is }))
 
 pub grows_assignment : Grows assignment
 grows_assignment names x t g h =

@@ -1,6 +1,6 @@
 -- A token that goes on with specifiers begins a longer list of them.
-use Rattle.std.specs.Prelude.{◌≡◌, ℕ, ◌+◌, ◌≤◌, Bool, true, false, not, ◌&&◌, ◌||◌, if◌then◌else◌, List, [], ◌∷◌, ◌++◌, map, Option, Some, None, is_some, refl}
-use Rattle.std.proofs.Common.{ap, sym, ◌∙◌, subst, cond, append_assoc, append-nil, ◌⊎◌, inl, inr}
+use Rattle.std.specs.Prelude.{◌≡◌, ℕ, Bool, true, false, not, ◌&&◌, ◌||◌, List, [], ◌∷◌, ◌++◌, map, Some, None, refl}
+use Rattle.std.proofs.Common.{ap, sym, ◌∙◌, subst, cond, ◌⊎◌, inl, inr}
 use denote.Hole.Carrier.{out}
 use Rattle.c_tree.specs.declared.token.Pos.{Pos}
 use Rattle.c_tree.specs.declared.token.Punct.{Punct}
@@ -13,26 +13,23 @@ use Rattle.c_tree.specs.declared.token.TokenKind.TheVariants as k
 use Rattle.c_tree.specs.declared.expression.Identifier.{Identifier}
 use Rattle.c_tree.specs.declared.specifier.Specifier.{Specifier, out-Specifier}
 use Rattle.c_tree.specs.declared.specifier.Specifier.TheVariants as specifier
-use Rattle.c_tree.specs.declared.specifier.Storage.{Storage}
 use Rattle.c_tree.specs.declared.specifier.Storage.TheVariants as storage
-use Rattle.c_tree.specs.declared.specifier.TypeWord.{TypeWord}
 use Rattle.c_tree.specs.declared.specifier.TypeWord.TheVariants as type
 use Rattle.c_tree.specs.declared.specifier.Member.{Member}
 use Rattle.c_tree.specs.declared.specifier.MemberDeclarator.{MemberDeclarator, roll-MemberDeclarator}
 use Rattle.c_tree.specs.declared.specifier.Enumerator.{Enumerator}
 use Rattle.c_tree.specs.declared.specifier.Enumerator.TheVariants as enumerator
-use Rattle.c_tree.specs.declared.declarator.Declarator.{Declarator, roll-Declarator}
+use Rattle.c_tree.specs.declared.declarator.Declarator.{roll-Declarator}
 use Rattle.c_tree.specs.declared.declarator.Direct.TheVariants as direct
 use Rattle.c_tree.specs.Spelling.Tokens.{token, punct, keyword, name as name_token, joined}
-use Rattle.c_tree.specs.Spelling.Trees.{specifier_spelling, member_spelling, enumerator_spelling, specifier_spelling-StructTag, specifier_spelling-Struct, specifier_spelling-EnumTag, specifier_spelling-Enum}
+use Rattle.c_tree.specs.Spelling.Trees.{member_spelling, enumerator_spelling, specifier_spelling-StructTag, specifier_spelling-Struct, specifier_spelling-EnumTag, specifier_spelling-Enum}
 use Rattle.c_tree.specs.Levels.Names.{Names, is_typedef_name, in_row}
 use Rattle.c_tree.specs.Levels.Facts.{Declaring, declares}
-use Rattle.c_tree.specs.Levels.Trees.{specifier_level, member_level, declarator_level, direct_level, direct_level-Named, specifier_level-Word, specifier_level-StructTag, specifier_level-Struct, specifier_level-EnumTag, specifier_level-Enum, enumerator_level-Plain}
-use Rattle.c_grammar.specs.Punctuators.{same_mark, same_mark-true}
-use Rattle.c_grammar.specs.Input.{Tokens, State, peek, is_mark}
+use Rattle.c_tree.specs.Levels.Trees.{specifier_level, member_level, declarator_level, direct_level-Named, specifier_level-Word, specifier_level-StructTag, specifier_level-Struct, specifier_level-EnumTag, specifier_level-Enum, enumerator_level-Plain}
+use Rattle.c_grammar.specs.Punctuators.{same_mark-true}
+use Rattle.c_grammar.specs.Input.{Tokens, peek, is_mark}
 use Rattle.c_grammar.specs.Read.Nodes.{is_type, name_type}
 use Rattle.c_grammar.specs.Read.Inner.{word_begins, begins_specifier}
-use Rattle.c_grammar.specs.Laws.Form.{Form}
 use Rattle.c_grammar.specs.Laws.Lists.{Items, all_good, all_added, all_stop, last_of, left, stop_goes, stop_last, stop_made, added_in_row}
 use Rattle.c_grammar.specs.Laws.Single.{MadeOf}
 use Rattle.c_grammar.specs.Laws.Cases.{SpecifierShape, specifier_shape}
@@ -141,13 +138,21 @@ int_declares : (at : Pos) (names : Names) → declares Declaring (name_type (spe
 int_declares at names =
     subst (λ b. declares Declaring (b || false) (declarator_level (roll-Declarator (record { pointers = []; direct = direct.Named (record { text = []; place = at }); suffixes = [] })) names).0 ≡ true) (sym (int_type at))
     (parts_declare Declaring true (roll-Declarator (record { pointers = []; direct = direct.Named (record { text = []; place = at }); suffixes = [] })) names
-      (ap (λ f. declares Declaring true (f names).0) (direct_level-Named (record { text = []; place = at }))) refl)
+    (ap (λ f. declares Declaring true (f names).0) (direct_level-Named (record { text = []; place = at }))) refl)
 
 int_good : (at : Pos) (names : Names) → (member_level (int_member at) names).0 ≡ true
 int_good at names =
     member_good names ((((specifier.Word type.Int at ∷ [], named_int at), []), at))
-    (((((nonempty (specifier.Word type.Int at) [], ((ap (λ f. kind_good false (f names).0) (specifier_level-Word type.Int at), ap (λ f. false || not (is_storing (f names).0)) (specifier_level-Word type.Int at)), tt)),
-      (refl, int_declares at _)), tt), tt))
+    ((
+      (
+        (
+          (nonempty (specifier.Word type.Int at) [], ((ap (λ f. kind_good false (f names).0) (specifier_level-Word type.Int at), ap (λ f. false || not (is_storing (f names).0)) (specifier_level-Word type.Int at)), tt)),
+          (refl, int_declares at _),
+        ),
+        tt,
+      ),
+      tt,
+    ))
 
 struct_longer : (w typed : Bool) (names : Names) (at : Pos) (tag : Identifier) (t : Token) → k.Punct p.LeftBrace ≡ t.kind → LongerItem (specifier_items w) typed names (specifier.StructTag at tag) t
 struct_longer w typed names at tag t e =
@@ -155,8 +160,10 @@ struct_longer w typed names at tag t e =
     let tail : Tokens = joined (map member_spelling (m ∷ [])) ++ punct p.RightBrace t.place ∷ [] in
     record {
       item = specifier.Struct at (Some tag) t.place (m ∷ []) t.place;
-      good = (ap (λ f. kind_good typed (f names).0) (specifier_level-Struct at (Some tag) t.place (m ∷ []) t.place) ∙ both_are _ true (int_good t.place names) refl,
-        ap (λ f. w || not (is_storing (f names).0)) (specifier_level-Struct at (Some tag) t.place (m ∷ []) t.place) ∙ or_true w);
+      good = (
+        ap (λ f. kind_good typed (f names).0) (specifier_level-Struct at (Some tag) t.place (m ∷ []) t.place) ∙ both_are _ true (int_good t.place names) refl,
+        ap (λ f. w || not (is_storing (f names).0)) (specifier_level-Struct at (Some tag) t.place (m ∷ []) t.place) ∙ or_true w,
+      );
       tokens = tail;
       spelt = specifier_spelling-Struct at (Some tag) t.place (m ∷ []) t.place ∙ ap (λ (u : Token). keyword word.Struct at ∷ (name_token tag ∷ (u ∷ tail))) (token_is t (k.Punct p.LeftBrace) e) ∙ ap (λ l. l ++ t ∷ tail) (sym (specifier_spelling-StructTag at tag));
     }
@@ -167,9 +174,11 @@ enum_longer w typed names at tag t e =
     let tail : Tokens = (joined (map enumerator_spelling (x ∷ [])) ++ []) ++ punct p.RightBrace t.place ∷ [] in
     record {
       item = specifier.Enum at (Some tag) t.place (x ∷ []) None t.place;
-      good = (ap (λ f. kind_good typed (f names).0) (specifier_level-Enum at (Some tag) t.place (x ∷ []) None t.place)
-          ∙ ap (λ f. not (f names).0.comma && ((f names).0.good && true)) (enumerator_level-Plain None (record { text = []; place = t.place })),
-        ap (λ f. w || not (is_storing (f names).0)) (specifier_level-Enum at (Some tag) t.place (x ∷ []) None t.place) ∙ or_true w);
+      good = (
+        ap (λ f. kind_good typed (f names).0) (specifier_level-Enum at (Some tag) t.place (x ∷ []) None t.place)
+            ∙ ap (λ f. not (f names).0.comma && ((f names).0.good && true)) (enumerator_level-Plain None (record { text = []; place = t.place })),
+        ap (λ f. w || not (is_storing (f names).0)) (specifier_level-Enum at (Some tag) t.place (x ∷ []) None t.place) ∙ or_true w,
+      );
       tokens = tail;
       spelt = specifier_spelling-Enum at (Some tag) t.place (x ∷ []) None t.place ∙ ap (λ (u : Token). keyword word.Enum at ∷ (name_token tag ∷ (u ∷ tail))) (token_is t (k.Punct p.LeftBrace) e) ∙ ap (λ l. l ++ t ∷ tail) (sym (specifier_spelling-EnumTag at tag));
     }
@@ -204,7 +213,7 @@ module _ (w : Bool) where
       inr (longer_by names (x ∷ xs) t (another I false names (x ∷ xs) t g (kind_new w (left I false (x ∷ xs)) (names ++ all_added I names (x ∷ xs)) t.kind t.place h)))
   by_tests names x xs t rest false false g e h =
       inl (stop_made I false x xs (names ++ all_added I names (x ∷ xs)) (t ∷ rest) (ap (λ o. is_tag (last_of I x xs) && is_mark p.LeftBrace o) (peek_first t rest) ∙ e)
-        (ap (begins_specifier w (left I false (x ∷ xs)) (names ++ all_added I names (x ∷ xs))) (peek_first t rest) ∙ h))
+      (ap (begins_specifier w (left I false (x ∷ xs)) (names ++ all_added I names (x ∷ xs))) (peek_first t rest) ∙ h))
 
   grows : (names : Names) (xs : List Specifier) (t : Token) (rest : Tokens) → (specifiers_form w).good names xs → (specifiers_form w).stop xs (names ++ (in_row (map specifier_level xs) names).1) (t ∷ rest) ⊎ Longer (specifiers_form w) names xs t
   grows names [] t rest g = absurd (g.0 refl)
@@ -230,7 +239,7 @@ module _ (w : Bool) where
 
   pub specifiers_stop : Stops (specifiers_form w)
   specifiers_stop = record {
-      next = λ names xs behind t a b g h. next_only xs behind t a b g.0 h;
-      end = λ names xs behind g. at_end xs behind g.0;
-      grows = grows;
-    }
+    next = λ names xs behind t a b g h. next_only xs behind t a b g.0 h;
+    end = λ names xs behind g. at_end xs behind g.0;
+    grows = grows;
+  }

@@ -1,6 +1,6 @@
 -- The levels of operators, and commas: an operand alone, or a node of the production.
-use Rattle.std.specs.Prelude.{◌≡◌, ℕ, zero, suc, ◌+◌, ◌≤◌, ◌<◌, max, Bool, true, false, not, ◌&&◌, if◌then◌else◌, nat_le, List, [], ◌∷◌, ◌++◌, length, map, Option, Some, None, Ok, refl}
-use Rattle.std.proofs.Common.{ap, sym, ◌∙◌, subst, cond, arith, append_assoc, append-nil, ◌⊎◌, inl, inr}
+use Rattle.std.specs.Prelude.{◌≡◌, ℕ, ◌+◌, ◌≤◌, ◌<◌, max, Bool, true, false, not, ◌&&◌, if◌then◌else◌, nat_le, List, [], ◌∷◌, ◌++◌, map, Option, Some, None, refl}
+use Rattle.std.proofs.Common.{ap, sym, ◌∙◌, subst, cond, arith, append-nil, ◌⊎◌, inl, inr}
 use Rattle.c_tree.specs.declared.token.TokenKind.{TokenKind}
 use Rattle.c_tree.specs.declared.token.TokenKind.TheVariants as k
 use Rattle.c_tree.specs.declared.expression.Level.{Level}
@@ -10,22 +10,22 @@ use Rattle.c_tree.specs.declared.expression.Next.{Next}
 use Rattle.c_tree.specs.Spelling.Tokens.{joined}
 use Rattle.c_tree.specs.Spelling.Trees.{expr_spelling, next_spelling, expr_spelling-Binary, expr_spelling-Comma}
 use Rattle.c_tree.specs.Levels.Names.{Names, in_row}
-use Rattle.c_tree.specs.Levels.Productions.{primary, postfix, prefixed, unary, cast, product, or, conditional, assignment, comma, none, joins, of_level, below}
-use Rattle.c_tree.specs.Levels.Facts.{same, filled, where_good, operands}
+use Rattle.c_tree.specs.Levels.Productions.{postfix, prefixed, unary, cast, or, assignment, comma, none, joins, of_level, below}
+use Rattle.c_tree.specs.Levels.Facts.{same, where_good, operands}
 use Rattle.c_tree.specs.Levels.Trees.{expr_level, next_level, expr_level-Binary, expr_level-Comma}
 use Rattle.c_tree.specs.Nesting.OfTrees.{deepest}
 use Rattle.c_tree.specs.Nesting.Trees.{expr_nesting, next_nesting, expr_nesting-Binary, expr_nesting-Comma}
-use Rattle.c_grammar.specs.Input.{Tokens, State, Parser, ◌>>=◌, pure, peek, goes, many}
+use Rattle.c_grammar.specs.Input.{Tokens, Parser, ◌>>=◌, pure, peek}
 use Rattle.c_grammar.specs.Read.Nodes.{with_operands, with_commas, begins_cast}
 use Rattle.c_grammar.specs.Read.Expressions.{after_operator, nexts, binary, commas_by}
 use Rattle.c_grammar.specs.Ending.OfTrees.{Ending, last, no_target}
 use Rattle.c_grammar.specs.Ending.Trees.{expr_ending, next_ending, expr_ending-Binary, expr_ending-Comma}
 use Rattle.c_grammar.specs.Laws.Form.{Form, Exact, Split, Joint, joint_exact, same_exact, two}
-use Rattle.c_grammar.specs.Laws.Lists.{all_good, all_added, chain, chain_exact, last_of, stop_goes, stop_last, stop_made}
+use Rattle.c_grammar.specs.Laws.Lists.{chain, chain_exact, last_of, stop_goes, stop_last, stop_made}
 use Rattle.c_grammar.specs.Laws.Cases.{ExprShape, expr_shape}
-use Rattle.c_grammar.specs.Laws.Behind.{goes_by, goes_on, expr_form, both_true, both_are, nat_le-true, nat_le-is, nat_le-false, same-true, same-itself, good_of, where_is, next_level as next_production, no_goes_level}
+use Rattle.c_grammar.specs.Laws.Behind.{goes_on, expr_form, both_true, both_are, nat_le-true, nat_le-is, nat_le-false, same-true, good_of, where_is, next_level as next_production, no_goes_level}
 use Rattle.c_grammar.specs.Laws.Numbers.{shape_number, number_within, tighter, level_low, below_level, same_level}
-use Rattle.c_grammar.specs.Laws.Operators.{operand_of, operator_of, next_items, nexts_kept, before_next, operands_good, operands_are, operands_added, last_ending}
+use Rattle.c_grammar.specs.Laws.Operators.{operand_of, next_items, nexts_kept, before_next, operands_good, operands_are, operands_added, last_ending}
 
 -- a node of the production
 pub record Made (make : Expr → List Next → Expr) (x : Expr) : Type 0 where
@@ -94,7 +94,7 @@ module _ (level within : ℕ) (make : Expr → List Next → Expr) (turn : Endin
       let more = stop_goes (next_items level within flat) tt (n ∷ ns) behind rest h in
       let e = last_ending (Unit {0}) (next_items level within flat) (expr_ending a) n ns in
       subst (λ e. level < goes_on e (peek rest)) (sym (row.ends a n ns)) (row.turn_to _ (peek rest)
-        (subst (λ e. level < goes_on e (peek rest)) (sym e) (next_production within level (expr_ending (operand_of (last_of (next_items level within flat) n ns))) (peek rest) above low own more)))
+      (subst (λ e. level < goes_on e (peek rest)) (sym e) (next_production within level (expr_ending (operand_of (last_of (next_items level within flat) n ns))) (peek rest) above low own more)))
 
   row_from_stop : (a : Expr) (ns : List Next) (behind : Names) (rest : Tokens) → level < goes_on (expr_ending (make a ns)) (peek rest) → row_form.stop (a, ns) behind rest
   row_from_stop a [] behind rest h =
@@ -104,26 +104,26 @@ module _ (level within : ℕ) (make : Expr → List Next → Expr) (turn : Endin
       let h1 = subst (λ e. level < goes_on e (peek rest)) (row.ends a n ns) h in
       let e = last_ending (Unit {0}) (next_items level within flat) (expr_ending a) n ns in
       stop_made (next_items level within flat) tt n ns behind rest (subst (λ e. within < goes_on e (peek rest)) e (row.turn_from _ (peek rest) h1))
-        (no_goes_level level (turn (last (expr_ending a) (map next_ending (n ∷ ns)))) behind rest high no_assignment low h1)
+      (no_goes_level level (turn (last (expr_ending a) (map next_ending (n ∷ ns)))) behind rest high no_assignment low h1)
 
   row_joint : Joint row_form (λ t. make t.0 t.1) (expr_form level)
   row_joint = record {
-      good = λ names t g. row_good names t.0 t.1 g;
-      split = λ names x g. row_split names x g (row.split names x g);
-      nested = λ t. row_nested t.0 t.1;
-      spelt = λ t. row_spelt t.0 t.1;
-      seen = λ names t. row_seen names t.0 t.1;
-      stop = λ names t behind rest g h. row_stop t.0 t.1 behind rest h;
-      from_stop = λ names t behind rest g h. row_from_stop t.0 t.1 behind rest h;
-    }
+    good = λ names t g. row_good names t.0 t.1 g;
+    split = λ names x g. row_split names x g (row.split names x g);
+    nested = λ t. row_nested t.0 t.1;
+    spelt = λ t. row_spelt t.0 t.1;
+    seen = λ names t. row_seen names t.0 t.1;
+    stop = λ names t behind rest g h. row_stop t.0 t.1 behind rest h;
+    from_stop = λ names t behind rest g h. row_from_stop t.0 t.1 behind rest h;
+  }
 
   pub row_exact : (more : ℕ) (operand : Parser Expr) → Exact (expr_form within) more operand → Exact (expr_form level) more (operand >>= (λ first. nexts level operand >>= (λ rest. pure (make first rest))))
   unfolding nexts
   row_exact more operand exact =
       same_exact (expr_form level) more _ _ (two operand (λ first. nexts level operand) make)
       (joint_exact row_form (λ t. make t.0 t.1) (expr_form level) more _
-        (chain_exact (expr_form within) (next_items level within flat) (λ a. tt) more operand (λ s. after_operator operand) exact (nexts_kept level within flat flat_is (omega arith) low more operand exact)
-          (λ names a n rest g h st. before_next within level (expr_ending a) n rest (omega arith) h.0)) row_joint)
+      (chain_exact (expr_form within) (next_items level within flat) (λ a. tt) more operand (λ s. after_operator operand) exact (nexts_kept level within flat flat_is (omega arith) low more operand exact)
+      (λ names a n rest g h st. before_next within level (expr_ending a) n rest (omega arith) h.0)) row_joint)
 
 -- ---- operators of a level (C11 6.5.5 to 6.5.14)
 
@@ -203,16 +203,16 @@ binary_split (ExprShape.a_sizeof_type at from type to) lv names h = tight (ExprS
 
 pub binary_row : (lv : Level) → Row (of_level lv) (below lv) (with_operands lv) no_target
 binary_row lv = let l = level_low lv in let d = below_level lv in record {
-    alone = λ a. refl;
-    told = λ names a n ns. ap (λ f. (f names).0) (expr_level-Binary lv a (n ∷ ns));
-    adds = λ names a n ns. ap (λ f. (f names).1) (expr_level-Binary lv a (n ∷ ns));
-    spelt = λ a n ns. expr_spelling-Binary lv a (n ∷ ns);
-    nested = λ a n ns. expr_nesting-Binary lv a (n ∷ ns);
-    ends = λ a n ns. expr_ending-Binary lv a (n ∷ ns);
-    turn_to = λ e o h. no_target_to (of_level lv) e o (omega arith) h;
-    turn_from = λ e o h. no_target_from (below lv) e o (omega arith) (omega arith);
-    split = λ names x h. binary_split (expr_shape x) lv names h;
-  }
+  alone = λ a. refl;
+  told = λ names a n ns. ap (λ f. (f names).0) (expr_level-Binary lv a (n ∷ ns));
+  adds = λ names a n ns. ap (λ f. (f names).1) (expr_level-Binary lv a (n ∷ ns));
+  spelt = λ a n ns. expr_spelling-Binary lv a (n ∷ ns);
+  nested = λ a n ns. expr_nesting-Binary lv a (n ∷ ns);
+  ends = λ a n ns. expr_ending-Binary lv a (n ∷ ns);
+  turn_to = λ e o h. no_target_to (of_level lv) e o (omega arith) h;
+  turn_from = λ e o h. no_target_from (below lv) e o (omega arith) (omega arith);
+  split = λ names x h. binary_split (expr_shape x) lv names h;
+}
 
 -- a level of operators is read exactly where its operands are
 pub binary_exact : (lv : Level) (more : ℕ) (operand : Parser Expr) → Exact (expr_form (below lv)) more operand → Exact (expr_form (of_level lv)) more (binary lv operand)
@@ -248,16 +248,16 @@ comma_split (ExprShape.a_sizeof_type at from type to) names h = within_assignmen
 
 pub comma_row : Row comma assignment with_commas (λ e. e)
 comma_row = record {
-    alone = λ a. refl;
-    told = λ names a n ns. ap (λ f. (f names).0) (expr_level-Comma a (n ∷ ns));
-    adds = λ names a n ns. ap (λ f. (f names).1) (expr_level-Comma a (n ∷ ns));
-    spelt = λ a n ns. expr_spelling-Comma a (n ∷ ns);
-    nested = λ a n ns. expr_nesting-Comma a (n ∷ ns);
-    ends = λ a n ns. expr_ending-Comma a (n ∷ ns);
-    turn_to = λ e o h. h;
-    turn_from = λ e o h. omega arith;
-    split = λ names x h. comma_split (expr_shape x) names h;
-  }
+  alone = λ a. refl;
+  told = λ names a n ns. ap (λ f. (f names).0) (expr_level-Comma a (n ∷ ns));
+  adds = λ names a n ns. ap (λ f. (f names).1) (expr_level-Comma a (n ∷ ns));
+  spelt = λ a n ns. expr_spelling-Comma a (n ∷ ns);
+  nested = λ a n ns. expr_nesting-Comma a (n ∷ ns);
+  ends = λ a n ns. expr_ending-Comma a (n ∷ ns);
+  turn_to = λ e o h. h;
+  turn_from = λ e o h. omega arith;
+  split = λ names x h. comma_split (expr_shape x) names h;
+}
 
 pub commas_exact : (more : ℕ) (operand : Parser Expr) → Exact (expr_form assignment) more operand → Exact (expr_form comma) more (commas_by operand)
 unfolding commas_by

@@ -1,5 +1,5 @@
 -- Lists are read exactly where their items are.
-use Rattle.std.specs.Prelude.{◌≡◌, ℕ, zero, suc, ◌+◌, ◌≤◌, ◌<◌, max, Bool, true, false, List, [], ◌∷◌, ◌++◌, length, map, Ok, Err, refl}
+use Rattle.std.specs.Prelude.{◌≡◌, ℕ, zero, suc, ◌≤◌, ◌<◌, max, Bool, true, false, List, [], ◌∷◌, ◌++◌, length, map, Ok, refl}
 use Rattle.std.proofs.Common.{ap, sym, ◌∙◌, subst, cond, arith, append_assoc, append-nil, length-append}
 use Rattle.c_tree.specs.Spelling.Tokens.{joined}
 use Rattle.c_tree.specs.Levels.Names.{Names, With, in_row}
@@ -130,7 +130,7 @@ module _ {S X : Type 0} (I : Items S X) (more : ℕ) (reads : S → Parser X) (k
       let names1 : Names = names ++ I.adds names x in
       let names2 : Names = names1 ++ I.adds names1 y in
       let st1 : all_stop I (I.step s x) (y ∷ ys) (names2 ++ all_added I names2 ys) rest =
-            subst (λ n. all_stop I (I.step s x) (y ∷ ys) n rest) (sym (append_assoc names1 (I.adds names1 y) (all_added I names2 ys))) st.1 in
+      subst (λ n. all_stop I (I.step s x) (y ∷ ys) n rest) (sym (append_assoc names1 (I.adds names1 y) (all_added I names2 ys))) st.1 in
       let next = head_stop (I.step s x) names1 y ys rest gs.0 gs.1 st1 in
       subst (λ l. I.stop x names1 l) (sym (append_assoc (I.spell y) (joined (map I.spell ys)) rest)) (kept.follows s names x y (joined (map I.spell ys) ++ rest) g gs.0 next)
 
@@ -163,7 +163,7 @@ module _ {S X : Type 0} (I : Items S X) (more : ℕ) (reads : S → Parser X) (k
       let m = loop_complete n (I.step s x) names1 (found ++ x ∷ []) xs rest (omega arith) g.1 deep st1.1 in
       let end : List X → Names → Outcome (List X) = λ l n. Ok (l, (n, rest)) in
       let m1 : turns n (I.step s x) (found ++ x ∷ []) (names1, tail) ≡ end (found ++ x ∷ xs) (names ++ (I.adds names x ++ all_added I names1 xs)) =
-            m ∙ ap (λ l. end l (names1 ++ all_added I names1 xs)) (append_assoc found (x ∷ []) xs) ∙ ap (λ n. end (found ++ x ∷ xs) n) (sym same) in
+      m ∙ ap (λ l. end l (names1 ++ all_added I names1 xs)) (append_assoc found (x ∷ []) xs) ∙ ap (λ n. end (found ++ x ∷ xs) n) (sym same) in
       turned s names found x n tail ((I.spell x ++ joined (map I.spell xs)) ++ rest) (names1, tail) _ (append_assoc (I.spell x) (joined (map I.spell xs)) rest) (kept.starts s names x tail g.0 first) it m1
 
   -- there are no more items than tokens
@@ -176,11 +176,11 @@ module _ {S X : Type 0} (I : Items S X) (more : ℕ) (reads : S → Parser X) (k
 
   pub list_exact : (s : S) → Exact (list I s) more (many_by I.goes reads I.step s)
   list_exact s = record {
-      sound = λ names ts out end h.
-          let m = loop_sound (length ts) s names ts [] out end (omega arith) h in
-          subst (λ l. Got (list I s) more names ts l end) (sym m.all) m.got;
-      complete = λ names xs rest g d st. loop_complete (length (joined (map I.spell xs) ++ rest)) s names [] xs rest (enough s names xs rest g) g d st;
-    }
+    sound = λ names ts out end h.
+        let m = loop_sound (length ts) s names ts [] out end (omega arith) h in
+        subst (λ l. Got (list I s) more names ts l end) (sym m.all) m.got;
+    complete = λ names xs rest g d st. loop_complete (length (joined (map I.spell xs) ++ rest)) s names [] xs rest (enough s names xs rest g) g d st;
+  }
 
   -- a list that has no token has no item
   pub list_quiet : (s : S) (names : Names) (xs : List X) → all_good I s names xs → joined (map I.spell xs) ≡ [] → all_added I names xs ≡ []
@@ -228,16 +228,16 @@ module _ {A S X : Type 0} (F : Form A) (I : Items S X) (start : A → S) where
 
   abbrev pub chain : Form (A × List X)
   chain = record {
-      spell = λ t. F.spell t.0 ++ joined (map I.spell t.1);
-      good = λ names t. F.good names t.0 × all_good I (start t.0) (names ++ F.adds names t.0) t.1;
-      adds = λ names t. F.adds names t.0 ++ all_added I (names ++ F.adds names t.0) t.1;
-      nest = λ t. max (F.nest t.0) (deepest (map I.nest t.1));
-      stop = λ t names rest. chain_stop t.0 t.1 names rest;
-    }
+    spell = λ t. F.spell t.0 ++ joined (map I.spell t.1);
+    good = λ names t. F.good names t.0 × all_good I (start t.0) (names ++ F.adds names t.0) t.1;
+    adds = λ names t. F.adds names t.0 ++ all_added I (names ++ F.adds names t.0) t.1;
+    nest = λ t. max (F.nest t.0) (deepest (map I.nest t.1));
+    stop = λ t names rest. chain_stop t.0 t.1 names rest;
+  }
 
   module _ (more : ℕ) (p : Parser A) (reads : S → Parser X) (first : Exact F more p) (kept : Kept I more reads)
       (follow : (names : Names) (a : A) (x : X) (rest : Tokens) → F.good names a → I.good (start a) (names ++ F.adds names a) x
-          → I.stop x ((names ++ F.adds names a) ++ I.adds (names ++ F.adds names a) x) rest → F.stop a (names ++ F.adds names a) (I.spell x ++ rest)) where
+      → I.stop x ((names ++ F.adds names a) ++ I.adds (names ++ F.adds names a) x) rest → F.stop a (names ++ F.adds names a) (I.spell x ++ rest)) where
     abbrev reader : Parser (A × List X)
     reader = both p (λ a. many_by I.goes reads I.step (start a))
 
@@ -263,12 +263,12 @@ module _ {A S X : Type 0} (F : Form A) (I : Items S X) (start : A → S) where
         let m = f.nested in
         let k = g.nested in
         let whole : Got chain more names ts (x, y) end = record {
-              good = (f.good, good1);
-              nested = omega arith;
-              spelt = f.spelt ∙ ap (λ l. F.spell x ++ l) g.spelt ∙ sym (append_assoc (F.spell x) (joined (map I.spell y)) end.1);
-              seen = seen1 ∙ append_assoc names (F.adds names x) (all_added I names1 y);
-              stops = ends x y mid end f.stops g.spelt g.seen g.stops;
-            } in
+          good = (f.good, good1);
+          nested = omega arith;
+          spelt = f.spelt ∙ ap (λ l. F.spell x ++ l) g.spelt ∙ sym (append_assoc (F.spell x) (joined (map I.spell y)) end.1);
+          seen = seen1 ∙ append_assoc names (F.adds names x) (all_added I names1 y);
+          stops = ends x y mid end f.stops g.spelt g.seen g.stops;
+        } in
         subst2 (λ (t : A × List X) (s : State). Got chain more names ts t s) w.0 w.1 whole
 
     all_stops : (a : A) (xs : List X) (names : Names) (rest : Tokens) → chain_stop a xs names rest → all_stop I (start a) xs names rest
@@ -282,7 +282,7 @@ module _ {A S X : Type 0} (F : Form A) (I : Items S X) (start : A → S) where
         let names1 : Names = names ++ F.adds names a in
         let names2 : Names = names1 ++ I.adds names1 x in
         let st1 : all_stop I (start a) (x ∷ xs) (names2 ++ all_added I names2 xs) rest =
-              subst (λ n. all_stop I (start a) (x ∷ xs) n rest) (sym (append_assoc names1 (I.adds names1 x) (all_added I names2 xs))) st in
+        subst (λ n. all_stop I (start a) (x ∷ xs) n rest) (sym (append_assoc names1 (I.adds names1 x) (all_added I names2 xs))) st in
         let next = head_stop I more reads kept (start a) names1 x xs rest gs.0 gs.1 st1 in
         subst (λ l. F.stop a names1 l) (sym (append_assoc (I.spell x) (joined (map I.spell xs)) rest)) (follow names a x (joined (map I.spell xs) ++ rest) g gs.0 next)
 

@@ -1,11 +1,10 @@
 -- The middle of a declarator is read exactly: the token behind a bracket tells a declarator from parameters.
-use Rattle.std.specs.Prelude.{◌≡◌, ℕ, ◌+◌, ◌≤◌, max, Bool, true, false, not, ◌&&◌, ◌||◌, if◌then◌else◌, List, [], ◌∷◌, ◌++◌, map, Option, Some, None, is_some, is_none, Ok, refl}
+use Rattle.std.specs.Prelude.{◌≡◌, ℕ, ◌≤◌, Bool, true, false, not, ◌&&◌, ◌||◌, if◌then◌else◌, [], ◌∷◌, ◌++◌, Some, Ok, refl}
 use Rattle.std.proofs.Common.{ap, sym, ◌∙◌, subst, cond, arith, append_assoc, append-nil, ◌⊎◌, inl, inr}
 use denote.Hole.Carrier.{out}
 use Rattle.c_tree.specs.declared.token.Pos.{Pos}
 use Rattle.c_tree.specs.declared.token.Punct.TheVariants as p
 use Rattle.c_tree.specs.declared.token.Token.{Token}
-use Rattle.c_tree.specs.declared.token.TokenKind.{TokenKind}
 use Rattle.c_tree.specs.declared.token.TokenKind.TheVariants as k
 use Rattle.c_tree.specs.declared.expression.Identifier.{Identifier}
 use Rattle.c_tree.specs.declared.declarator.Declarator.{Declarator}
@@ -13,11 +12,11 @@ use Rattle.c_tree.specs.declared.declarator.Direct.{Direct, out-Direct}
 use Rattle.c_tree.specs.declared.declarator.Direct.TheVariants as direct
 use Rattle.c_tree.specs.Spelling.Tokens.{punct, name as name_token}
 use Rattle.c_tree.specs.Spelling.Trees.{declarator_spelling, direct_spelling, direct_spelling-Nothing, direct_spelling-Named, direct_spelling-Grouped}
-use Rattle.c_tree.specs.Levels.Names.{Names, is_typedef_name}
-use Rattle.c_tree.specs.Levels.Facts.{Use, Declaring, Abstract, Parameter, declares, DeclaratorFacts}
+use Rattle.c_tree.specs.Levels.Names.{Names}
+use Rattle.c_tree.specs.Levels.Facts.{Use, Declaring, Abstract, Parameter, declares}
 use Rattle.c_tree.specs.Levels.Trees.{declarator_level, direct_level, direct_level-Nothing, direct_level-Named, direct_level-Grouped}
-use Rattle.c_tree.specs.Nesting.Trees.{declarator_nesting, direct_nesting, direct_nesting-Nothing, direct_nesting-Named, direct_nesting-Grouped}
-use Rattle.c_grammar.specs.Input.{Tokens, State, Outcome, Parser, ◌>>=◌, pure, refuse, choose, peek, behind, is_mark, sees, expect, identifier, opening}
+use Rattle.c_tree.specs.Nesting.Trees.{direct_nesting-Nothing, direct_nesting-Named, direct_nesting-Grouped}
+use Rattle.c_grammar.specs.Input.{Tokens, State, Outcome, ◌>>=◌, pure, refuse, peek, behind, is_mark, sees, expect, identifier, opening}
 use Rattle.c_grammar.specs.Read.Nodes.{is_nothing}
 use Rattle.c_grammar.specs.Read.Inner.{Inner, begins_parameters}
 use Rattle.c_grammar.specs.Read.Declarators.{takes_name, opens_declarator, has_name, named, no_name, closed as read_closed, grouped, middle}
@@ -96,6 +95,7 @@ group_good Parameter typed names from d to n h (inl e) = absurd (apart e) where
   declaring Declaring = Unit {0}
   declaring Abstract = ⊥
   declaring Parameter = ⊥
+
   apart : Parameter ≡ Declaring → ⊥
   apart e = subst declaring (sym e) tt
 group_good Parameter typed names from d to n h (inr u) =
@@ -137,6 +137,7 @@ untyped_opened Abstract names d tail n (inl e) = absurd (apart e) where
   declaring Declaring = Unit {0}
   declaring Abstract = ⊥
   declaring Parameter = ⊥
+
   apart : Abstract ≡ Declaring → ⊥
   apart e = subst declaring (sym e) tt
 untyped_opened Parameter names d tail n (inl e) = absurd (apart e) where
@@ -144,6 +145,7 @@ untyped_opened Parameter names d tail n (inl e) = absurd (apart e) where
   declaring Declaring = Unit {0}
   declaring Abstract = ⊥
   declaring Parameter = ⊥
+
   apart : Parameter ≡ Declaring → ⊥
   apart e = subst declaring (sym e) tt
 
@@ -156,27 +158,27 @@ grouped_name from d to = refl
 
 grouped_node : (purpose : Use) (typed : Bool) → GuardedNode (λ i. Unit {0} × (opens purpose i ≡ true)) (grouped_form purpose typed) grouped_of (middle_form purpose typed)
 grouped_node purpose typed = record {
-    good = λ names t rest g known.
-        let d : Declarator = t.0.1 in
-        let e : opens purpose (names, punct p.LeftParen t.0.0 ∷ (declarator_spelling d ++ (punct p.RightParen t.1 ∷ rest))) ≡ true =
-              subst (λ l. opens purpose (names, l) ≡ true) (flat t.0.0 (declarator_spelling d) t.1 rest) known.1 in
-        group_good purpose typed names t.0.0 d t.1 g.0.1.0 g.0.1.1
-        (opened_untyped purpose names d (punct p.RightParen t.1 ∷ rest) g.0.1.0 (sym (opens_first purpose names t.0.0 d (punct p.RightParen t.1 ∷ rest) g.0.1.0) ∙ e));
-    parts = λ names t g. ((tt, group_parts purpose typed names t.0.0 t.0.1 t.1 g), tt);
-    nested = λ t. direct_nesting-Grouped t.0.0 t.0.1 t.1 ∙ omega arith;
-    spelt = λ t. direct_spelling-Grouped t.0.0 t.0.1 t.1;
-    seen = λ names t. ap (λ f. (f names).1) (direct_level-Grouped t.0.0 t.0.1 t.1);
-    stop = λ names t behind rest g h. subst (λ b. nothing_stop b purpose typed behind rest) (sym (grouped_name t.0.0 t.0.1 t.1)) tt;
-    from_stop = λ names t behind rest g h. tt;
-  }
+  good = λ names t rest g known.
+      let d : Declarator = t.0.1 in
+      let e : opens purpose (names, punct p.LeftParen t.0.0 ∷ (declarator_spelling d ++ (punct p.RightParen t.1 ∷ rest))) ≡ true =
+      subst (λ l. opens purpose (names, l) ≡ true) (flat t.0.0 (declarator_spelling d) t.1 rest) known.1 in
+      group_good purpose typed names t.0.0 d t.1 g.0.1.0 g.0.1.1
+      (opened_untyped purpose names d (punct p.RightParen t.1 ∷ rest) g.0.1.0 (sym (opens_first purpose names t.0.0 d (punct p.RightParen t.1 ∷ rest) g.0.1.0) ∙ e));
+  parts = λ names t g. ((tt, group_parts purpose typed names t.0.0 t.0.1 t.1 g), tt);
+  nested = λ t. direct_nesting-Grouped t.0.0 t.0.1 t.1 ∙ omega arith;
+  spelt = λ t. direct_spelling-Grouped t.0.0 t.0.1 t.1;
+  seen = λ names t. ap (λ f. (f names).1) (direct_level-Grouped t.0.0 t.0.1 t.1);
+  stop = λ names t behind rest g h. subst (λ b. nothing_stop b purpose typed behind rest) (sym (grouped_name t.0.0 t.0.1 t.1)) tt;
+  from_stop = λ names t behind rest g h. tt;
+}
 
 grouped_is : (more : ℕ) (inner : Inner) (purpose : Use) (typed : Bool) (i : State) → grouped more inner purpose typed i
     ≡ map_to (both (both (opening more p.LeftParen) (λ from. dropping is_nothing (inner.declarator purpose typed))) (λ t. expect p.RightParen)) grouped_of i
 unfolding grouped
 grouped_is more inner purpose typed i =
     bind_same (opening more p.LeftParen) (λ from. inner.declarator purpose typed >>= (λ d. if is_nothing d then refuse else read_closed more inner from d))
-      (λ from. dropping is_nothing (inner.declarator purpose typed) >>= (λ d. expect p.RightParen >>= (λ to. pure (direct.Grouped from d to))))
-      (λ from j. dropping_is is_nothing (inner.declarator purpose typed) (read_closed more inner from) j) i
+    (λ from. dropping is_nothing (inner.declarator purpose typed) >>= (λ d. expect p.RightParen >>= (λ to. pure (direct.Grouped from d to))))
+    (λ from j. dropping_is is_nothing (inner.declarator purpose typed) (read_closed more inner from) j) i
     ∙ three (opening more p.LeftParen) (λ from. dropping is_nothing (inner.declarator purpose typed)) (λ from d. expect p.RightParen) direct.Grouped i
 
 grouped_exact : (more : ℕ) (inner : Inner) (purpose : Use) (typed : Bool) → Exact (deeper (declarator_form purpose typed)) more (inner.declarator purpose typed)
@@ -184,9 +186,9 @@ grouped_exact : (more : ℕ) (inner : Inner) (purpose : Use) (typed : Bool) → 
 grouped_exact more inner purpose typed exact =
     same_guarded _ (only (Image grouped_of) (middle_form purpose typed)) more _ (grouped more inner purpose typed) (grouped_is more inner purpose typed)
     (guarded_node _ (grouped_form purpose typed) grouped_of (middle_form purpose typed) more _
-      (bracketed_exact p.LeftParen (deeper (sparing is_nothing (declarator_form purpose typed))) p.RightParen more _
-        (dropping_exact is_nothing (deeper (declarator_form purpose typed)) more (inner.declarator purpose typed) exact)
-        (λ names d at rest g. declarator_before purpose typed d _ p.RightParen at rest close_ends)) (grouped_node purpose typed))
+    (bracketed_exact p.LeftParen (deeper (sparing is_nothing (declarator_form purpose typed))) p.RightParen more _
+    (dropping_exact is_nothing (deeper (declarator_form purpose typed)) more (inner.declarator purpose typed) exact)
+    (λ names d at rest g. declarator_before purpose typed d _ p.RightParen at rest close_ends)) (grouped_node purpose typed))
 
 -- ---- a name
 
@@ -212,14 +214,14 @@ Known purpose i = Unit {0} × (opens purpose i ≡ false)
 
 named_node : (purpose : Use) (typed : Bool) → GuardedNode (λ i. Known purpose i × (takes purpose typed i ≡ true)) name_form direct.Named (middle_form purpose typed)
 named_node purpose typed = record {
-    good = λ names id rest g known. name_seen purpose typed names id (sym (ap (takes_name purpose typed names) (peek_first (name_token id) rest)) ∙ known.1);
-    parts = λ names id g. tt;
-    nested = λ id. direct_nesting-Named id;
-    spelt = λ id. direct_spelling-Named id;
-    seen = λ names id. ap (λ f. (f names).1) (direct_level-Named id);
-    stop = λ names id behind rest g h. subst (λ b. nothing_stop b purpose typed behind rest) (sym (named_has id)) tt;
-    from_stop = λ names id behind rest g h. tt;
-  }
+  good = λ names id rest g known. name_seen purpose typed names id (sym (ap (takes_name purpose typed names) (peek_first (name_token id) rest)) ∙ known.1);
+  parts = λ names id g. tt;
+  nested = λ id. direct_nesting-Named id;
+  spelt = λ id. direct_spelling-Named id;
+  seen = λ names id. ap (λ f. (f names).1) (direct_level-Named id);
+  stop = λ names id behind rest g h. subst (λ b. nothing_stop b purpose typed behind rest) (sym (named_has id)) tt;
+  from_stop = λ names id behind rest g h. tt;
+}
 
 named_exact : (more : ℕ) (purpose : Use) (typed : Bool) → Guarded (λ i. Known purpose i × (takes purpose typed i ≡ true)) (only (Image direct.Named) (middle_form purpose typed)) more named
 named_exact more purpose typed = guarded_node _ name_form direct.Named (middle_form purpose typed) more identifier (identifier_exact more) (named_node purpose typed)
@@ -253,12 +255,12 @@ module _ (more : ℕ) (purpose : Use) (typed : Bool) where
   nothing_sound false names ts x s e known h =
       let w = ok_pair {A = Direct} direct.Nothing x (names, ts) s h in
       let whole : Got (only IsNothing (middle_form purpose typed)) more names ts direct.Nothing (names, ts) = record {
-            good = (refl, nothing_good purpose typed names e);
-            nested = subst (λ n. n ≤ more) (sym direct_nesting-Nothing) (omega arith);
-            spelt = ap (λ l. l ++ ts) (sym direct_spelling-Nothing);
-            seen = sym (append-nil names) ∙ ap (λ f. names ++ (f names).1) (sym direct_level-Nothing);
-            stops = subst (λ b. nothing_stop b purpose typed names ts) (sym nothing_none) (known.0.1, known.1);
-          } in
+        good = (refl, nothing_good purpose typed names e);
+        nested = subst (λ n. n ≤ more) (sym direct_nesting-Nothing) (omega arith);
+        spelt = ap (λ l. l ++ ts) (sym direct_spelling-Nothing);
+        seen = sym (append-nil names) ∙ ap (λ f. names ++ (f names).1) (sym direct_level-Nothing);
+        stops = subst (λ b. nothing_stop b purpose typed names ts) (sym nothing_none) (known.0.1, known.1);
+      } in
       subst (λ (s : State). Got (only IsNothing (middle_form purpose typed)) more names ts x s) w.1 (subst (λ (x : Direct). Got (only IsNothing (middle_form purpose typed)) more names ts x (names, ts)) w.0 whole)
 
   nothing_at : (names : Names) (rest : Tokens) → declares purpose typed (direct_level direct.Nothing names).0 ≡ true
@@ -270,10 +272,10 @@ module _ (more : ℕ) (purpose : Use) (typed : Bool) where
 
   nothing_exact : Guarded (λ i. Known purpose i × (takes purpose typed i ≡ false)) (only IsNothing (middle_form purpose typed)) more (no_name purpose)
   nothing_exact = record {
-      sound = λ names ts x s known h. nothing_sound (has_name purpose) names ts x s refl known h;
-      complete = λ names x rest g n st.
-          subst (λ x. declares purpose typed (direct_level x names).0 ≡ true → no_name purpose (names, direct_spelling x ++ rest) ≡ Ok (x, (names ++ (direct_level x names).1, rest))) g.0 (nothing_at names rest) g.1;
-    }
+    sound = λ names ts x s known h. nothing_sound (has_name purpose) names ts x s refl known h;
+    complete = λ names x rest g n st.
+        subst (λ x. declares purpose typed (direct_level x names).0 ≡ true → no_name purpose (names, direct_spelling x ++ rest) ≡ Ok (x, (names ++ (direct_level x names).1, rest))) g.0 (nothing_at names rest) g.1;
+  }
 
 -- ---- which it is
 
@@ -310,10 +312,10 @@ unfolding middle
 middle_exact more inner purpose typed exact =
     whole_exact (λ x. Image grouped_of x ⊎ (Image direct.Named x ⊎ IsNothing x)) (middle_form purpose typed) more _ (λ names x g. middle_is (direct_shape x))
     (guarded_exact _ more _ (choose_guarded (λ i. Unit {0}) (Image grouped_of) (λ x. Image direct.Named x ⊎ IsNothing x) (middle_form purpose typed) more (opens purpose) (grouped more inner purpose typed) _
-      (grouped_exact more inner purpose typed exact)
-      (choose_guarded (Known purpose) (Image direct.Named) IsNothing (middle_form purpose typed) more (takes purpose typed) named (no_name purpose) (named_exact more purpose typed) (nothing_exact more purpose typed)
-        (λ names x rest i g s. subst (λ x. declares purpose typed (direct_level x names).0 ≡ true → takes purpose typed (names, direct_spelling x ++ rest) ≡ true) i.1
-          (λ g. ap (λ l. takes purpose typed (names, l ++ rest)) (direct_spelling-Named i.0) ∙ ap (takes_name purpose typed names) (peek_first (name_token i.0) rest) ∙ seen_name purpose typed names i.0 g) g)
-        (λ names x rest i g s. subst (λ x. (middle_form purpose typed).stop x (names ++ (direct_level x names).1) rest → takes purpose typed (names, direct_spelling x ++ rest) ≡ false) i (λ s. (nothing_stops purpose typed names rest s).1) s))
-      (λ names x rest i g s. subst (λ x. declares purpose typed (direct_level x names).0 ≡ true → opens purpose (names, direct_spelling x ++ rest) ≡ true) i.1 (group_taken purpose typed names i.0.0.0 i.0.0.1 i.0.1 rest) g)
-      (λ names x rest i g s. not_opened purpose typed names x rest i s)))
+    (grouped_exact more inner purpose typed exact)
+    (choose_guarded (Known purpose) (Image direct.Named) IsNothing (middle_form purpose typed) more (takes purpose typed) named (no_name purpose) (named_exact more purpose typed) (nothing_exact more purpose typed)
+    (λ names x rest i g s. subst (λ x. declares purpose typed (direct_level x names).0 ≡ true → takes purpose typed (names, direct_spelling x ++ rest) ≡ true) i.1
+    (λ g. ap (λ l. takes purpose typed (names, l ++ rest)) (direct_spelling-Named i.0) ∙ ap (takes_name purpose typed names) (peek_first (name_token i.0) rest) ∙ seen_name purpose typed names i.0 g) g)
+    (λ names x rest i g s. subst (λ x. (middle_form purpose typed).stop x (names ++ (direct_level x names).1) rest → takes purpose typed (names, direct_spelling x ++ rest) ≡ false) i (λ s. (nothing_stops purpose typed names rest s).1) s))
+    (λ names x rest i g s. subst (λ x. declares purpose typed (direct_level x names).0 ≡ true → opens purpose (names, direct_spelling x ++ rest) ≡ true) i.1 (group_taken purpose typed names i.0.0.0 i.0.0.1 i.0.1 rest) g)
+    (λ names x rest i g s. not_opened purpose typed names x rest i s)))

@@ -1,24 +1,19 @@
 -- The production of a tree that is of one, by its kind of node.
-use Rattle.std.specs.Prelude.{◌≡◌, ℕ, zero, suc, ◌+◌, ◌≤◌, ◌<◌, max, Bool, true, false, not, ◌&&◌, if◌then◌else◌, nat_le, List, [], ◌∷◌, ◌++◌, map, refl}
-use Rattle.std.proofs.Common.{ap, sym, ◌∙◌, subst, cond, arith, ◌⊎◌, inl, inr}
+use Rattle.std.specs.Prelude.{◌≡◌, ℕ, ◌+◌, ◌≤◌, ◌<◌, Bool, true, false, ◌&&◌, if◌then◌else◌, nat_le, List, [], ◌∷◌, map, refl}
+use Rattle.std.proofs.Common.{ap, sym, ◌∙◌, arith}
 use denote.Hole.Carrier.{out}
-use Rattle.c_tree.specs.declared.token.Pos.{Pos}
 use Rattle.c_tree.specs.declared.token.Punct.{Punct}
 use Rattle.c_tree.specs.declared.token.Punct.TheVariants as p
-use Rattle.c_tree.specs.declared.expression.Mark.{Mark}
 use Rattle.c_tree.specs.declared.expression.Level.{Level}
 use Rattle.c_tree.specs.declared.expression.Level.TheVariants as level
-use Rattle.c_tree.specs.declared.expression.Expr.{Expr, out-Expr}
-use Rattle.c_tree.specs.declared.expression.Expr.TheVariants as expr
+use Rattle.c_tree.specs.declared.expression.Expr.{Expr}
 use Rattle.c_tree.specs.declared.expression.Prefix.{Prefix, out-Prefix}
-use Rattle.c_tree.specs.declared.expression.Prefix.TheVariants as prefix
 use Rattle.c_tree.specs.Levels.Names.{Names, in_row}
 use Rattle.c_tree.specs.Levels.Productions.{primary, postfix, prefixed, unary, cast, product, or, conditional, assignment, comma, none, of_level, below}
 use Rattle.c_tree.specs.Levels.Facts.{where_good, PrefixKind, Wrong, Loose, Tight, Typed, kind_of_mark, runs_on, begins_typed, filled}
 use Rattle.c_tree.specs.Levels.Trees.{expr_level, prefix_level, expr_level-Name, expr_level-Number, expr_level-Char, expr_level-Strings, expr_level-Paren, expr_level-Postfix, expr_level-SizeofType, expr_level-Prefixed, expr_level-Binary, expr_level-Conditional, expr_level-Assign, expr_level-Comma, prefix_level-Operator, prefix_level-Sizeof, prefix_level-Cast}
 use Rattle.c_grammar.specs.Read.Nodes.{is_cast, begins_cast}
-use Rattle.c_grammar.specs.Laws.Behind.{both_true, good_of}
-use Rattle.c_grammar.specs.Laws.Cases.{ExprShape, expr_shape, PrefixShape, prefix_shape}
+use Rattle.c_grammar.specs.Laws.Cases.{ExprShape, PrefixShape, prefix_shape}
 
 -- the production of a node of this kind
 abbrev pub shape_number : {x : Expr} → ExprShape x → ℕ

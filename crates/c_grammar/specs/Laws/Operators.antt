@@ -1,30 +1,28 @@
 -- Operands of one production with operators between are read exactly.
-use Rattle.std.specs.Prelude.{◌≡◌, ℕ, zero, suc, ◌+◌, ◌≤◌, ◌<◌, max, Bool, true, false, not, ◌&&◌, if◌then◌else◌, nat_le, List, [], ◌∷◌, ◌++◌, length, map, Option, Some, None, Ok, refl}
-use Rattle.std.proofs.Common.{ap, sym, ◌∙◌, subst, cond, arith, append_assoc, append-nil, ◌⊎◌, inl, inr}
+use Rattle.std.specs.Prelude.{◌≡◌, ℕ, ◌≤◌, ◌<◌, max, true, nat_le, List, [], ◌∷◌, ◌++◌, length, map, Some, refl}
+use Rattle.std.proofs.Common.{ap, sym, ◌∙◌, subst, arith}
 use Rattle.c_tree.specs.declared.token.Pos.{Pos}
-use Rattle.c_tree.specs.declared.token.Punct.{Punct}
 use Rattle.c_tree.specs.declared.token.TokenKind.{TokenKind}
 use Rattle.c_tree.specs.declared.token.TokenKind.TheVariants as k
 use Rattle.c_tree.specs.declared.expression.Mark.{Mark}
 use Rattle.c_tree.specs.declared.expression.Expr.{Expr}
 use Rattle.c_tree.specs.declared.expression.Next.{Next, out-Next, roll-Next, roll-out-Next}
-use Rattle.c_tree.specs.Spelling.Tokens.{token, mark, punct, joined}
+use Rattle.c_tree.specs.Spelling.Tokens.{token, mark}
 use Rattle.c_tree.specs.Spelling.Trees.{expr_spelling, next_spelling, next_spelling-is}
-use Rattle.c_tree.specs.Levels.Names.{Names, With, in_row}
-use Rattle.c_tree.specs.Levels.Productions.{prefixed, assignment, none, joins}
-use Rattle.c_tree.specs.Levels.Facts.{same, filled, where_good, Operand, operands}
+use Rattle.c_tree.specs.Levels.Names.{Names, in_row}
+use Rattle.c_tree.specs.Levels.Productions.{none, joins}
+use Rattle.c_tree.specs.Levels.Facts.{same, Operand, operands}
 use Rattle.c_tree.specs.Levels.Trees.{expr_level, next_level, next_level-is}
-use Rattle.c_tree.specs.Nesting.OfTrees.{deepest}
 use Rattle.c_tree.specs.Nesting.Trees.{expr_nesting, next_nesting, next_nesting-is}
-use Rattle.c_grammar.specs.Input.{Tokens, State, Parser, peek, goes, one, many}
-use Rattle.c_grammar.specs.Read.Expressions.{operator_at, after_operator, nexts}
-use Rattle.c_grammar.specs.Ending.OfTrees.{Ending, last, no_target}
+use Rattle.c_grammar.specs.Input.{Tokens, Parser, peek, goes, one}
+use Rattle.c_grammar.specs.Read.Expressions.{operator_at, after_operator}
+use Rattle.c_grammar.specs.Ending.OfTrees.{Ending, last}
 use Rattle.c_grammar.specs.Ending.Trees.{expr_ending, next_ending, next_ending-is}
-use Rattle.c_grammar.specs.Laws.Form.{Form, Got, Exact, Node, Image, Split, Joint, only, both, node_exact, joint_exact, same_exact, whole_exact, two}
-use Rattle.c_grammar.specs.Laws.Lists.{Items, Kept, all_good, all_added, chain, chain_exact, last_of, stop_goes, stop_last, stop_made, added_in_row, list_quiet}
+use Rattle.c_grammar.specs.Laws.Form.{Form, Exact, Node, Image, only, node_exact, same_exact, whole_exact, two}
+use Rattle.c_grammar.specs.Laws.Lists.{Items, Kept, all_good, all_added, last_of, added_in_row}
 use Rattle.c_grammar.specs.Laws.Single.{single, one_exact, always}
 use Rattle.c_grammar.specs.Laws.Rows.{pre, pre_exact}
-use Rattle.c_grammar.specs.Laws.Behind.{goes_by, goes_on, expr_form, both_true, both_are, nat_le-true, nat_le-is, same-true, same-itself, good_of, where_is, goes_above, before_mark, goes_mark, mark_goes, goes_end, next_level as next_production, no_goes_level}
+use Rattle.c_grammar.specs.Laws.Behind.{goes_on, expr_form, both_true, both_are, nat_le-true, nat_le-is, same-true, same-itself, before_mark, goes_mark, mark_goes, goes_end}
 
 -- ---- an operator, and the operand behind it
 
@@ -55,12 +53,12 @@ operator_exact more = one_exact mark always operator_at operator_picks (λ names
 -- an operator of any production, and an operand of this one
 abbrev pub next_form : ℕ → (ℕ → ℕ) → Form Next
 next_form within up = record {
-    spell = next_spelling;
-    good = λ names n. (expr_level (operand_of n) names).0 ≤ within;
-    adds = λ names n. (next_level n names).1;
-    nest = λ n. up (next_nesting n);
-    stop = λ n names rest. within < goes_on (expr_ending (operand_of n)) (peek rest);
-  }
+  spell = next_spelling;
+  good = λ names n. (expr_level (operand_of n) names).0 ≤ within;
+  adds = λ names n. (next_level n names).1;
+  nest = λ n. up (next_nesting n);
+  stop = λ n names rest. within < goes_on (expr_ending (operand_of n)) (peek rest);
+}
 
 abbrev pub next_of : Mark × Expr → Next
 next_of t = roll-Next (record { operator = t.0; operand = t.1 })
@@ -68,35 +66,35 @@ next_of t = roll-Next (record { operator = t.0; operand = t.1 })
 module _ (within : ℕ) (up : ℕ → ℕ) (higher : (n : ℕ) → max 0 (up n) ≡ up n) where
   next_node : Node (pre operator_form (λ _. expr_at within up)) next_of (next_form within up)
   next_node = record {
-      good = λ names t g. g.1;
-      parts = λ names t g. (tt, g);
-      nested = λ t. ap up (next_nesting-is (next_of t)) ∙ sym (higher (expr_nesting t.1));
-      spelt = λ t. next_spelling-is (next_of t);
-      seen = λ names t. ap (λ f. (f names).1) (next_level-is (next_of t));
-      stop = λ names t behind rest g h. h;
-      from_stop = λ names t behind rest g h. h;
-    }
+    good = λ names t g. g.1;
+    parts = λ names t g. (tt, g);
+    nested = λ t. ap up (next_nesting-is (next_of t)) ∙ sym (higher (expr_nesting t.1));
+    spelt = λ t. next_spelling-is (next_of t);
+    seen = λ names t. ap (λ f. (f names).1) (next_level-is (next_of t));
+    stop = λ names t behind rest g h. h;
+    from_stop = λ names t behind rest g h. h;
+  }
 
   pub next_exact : (more : ℕ) (operand : Parser Expr) → Exact (expr_at within up) more operand → Exact (next_form within up) more (after_operator operand)
   unfolding after_operator
   next_exact more operand exact =
       whole_exact (Image next_of) (next_form within up) more (after_operator operand) (λ names n g. ((operator_of n, operand_of n), roll-out-Next n))
       (same_exact (only (Image next_of) (next_form within up)) more _ (after_operator operand) (two (one operator_at) (λ m. operand) (λ m x. roll-Next (record { operator = m; operand = x })))
-        (node_exact (pre operator_form (λ _. expr_at within up)) next_of (next_form within up) more _
-          (pre_exact operator_form (λ _. expr_at within up) more (one operator_at) (λ _. operand) (λ names a. refl) (operator_exact more) (λ _. exact) (λ names a b rest g h s. tt)) next_node))
+      (node_exact (pre operator_form (λ _. expr_at within up)) next_of (next_form within up) more _
+      (pre_exact operator_form (λ _. expr_at within up) more (one operator_at) (λ _. operand) (λ names a. refl) (operator_exact more) (λ _. exact) (λ names a b rest g h s. tt)) next_node))
 
 -- ---- operators of one production
 
 abbrev pub next_items : ℕ → ℕ → (ℕ → ℕ) → Items (Unit {0}) Next
 next_items level within up = record {
-    spell = next_spelling;
-    good = λ s names n. (joins (operator_of n).punct ≡ level) × (next_form within up).good names n;
-    adds = (next_form within up).adds;
-    nest = (next_form within up).nest;
-    stop = (next_form within up).stop;
-    goes = λ s. goes level;
-    step = λ s n. tt;
-  }
+  spell = next_spelling;
+  good = λ s names n. (joins (operator_of n).punct ≡ level) × (next_form within up).good names n;
+  adds = (next_form within up).adds;
+  nest = (next_form within up).nest;
+  stop = (next_form within up).stop;
+  goes = λ s. goes level;
+  step = λ s n. tt;
+}
 
 pub next_goes : (level : ℕ) (names : Names) (n : Next) (rest : Tokens) → joins (operator_of n).punct ≡ level → goes level (names, next_spelling n ++ rest) ≡ true
 next_goes level names n rest j = ap (λ l. goes level (names, l ++ rest)) (next_spelling-is n) ∙ goes_mark level names (operator_of n).punct (operator_of n).place (expr_spelling (operand_of n) ++ rest) j
@@ -140,9 +138,10 @@ module _ (level within : ℕ) (up : ℕ → ℕ) (higher : (n : ℕ) → max 0 (
   operands_are names (n ∷ ns) h =
       let o : (next_level n names).0 ≡ ((operator_of n).punct, (expr_level (operand_of n) names).0) = ap (λ f. (f names).0) (next_level-is n) in
       let a = both_true (same (joins (next_level n names).0.0) level) _ h in
-      let b = both_true (nat_le (next_level n names).0.1 within) _ a.1 in
-      ((same-true (joins (operator_of n).punct) level (sym (ap (λ (f : Operand). same (joins f.0) level) o) ∙ a.0), nat_le-true (expr_level (operand_of n) names).0 within (sym (ap (λ (f : Operand). nat_le f.1 within) o) ∙ b.0)),
-        operands_are (names ++ (next_level n names).1) ns b.1)
+      let b = both_true (nat_le (next_level n names).0.1 within) _ a.1 in (
+        (same-true (joins (operator_of n).punct) level (sym (ap (λ (f : Operand). same (joins f.0) level) o) ∙ a.0), nat_le-true (expr_level (operand_of n) names).0 within (sym (ap (λ (f : Operand). nat_le f.1 within) o) ∙ b.0)),
+        operands_are (names ++ (next_level n names).1) ns b.1,
+      )
 
   pub operands_added : (names : Names) (ns : List Next) → all_added (next_items level within up) names ns ≡ (in_row (map next_level ns) names).1
   operands_added names ns = added_in_row (next_items level within up) next_level (λ names x. refl) names ns

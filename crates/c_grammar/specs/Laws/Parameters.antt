@@ -1,46 +1,39 @@
 -- Parameters are read exactly (C11 6.7.6.3).
-use Rattle.std.specs.Prelude.{◌≡◌, ℕ, ◌+◌, ◌≤◌, ◌<◌, max, Bool, true, false, not, ◌&&◌, ◌||◌, if◌then◌else◌, List, [], ◌∷◌, ◌++◌, length, map, Option, Some, None, is_some, is_none, Ok, refl}
-use Rattle.std.proofs.Common.{ap, sym, ◌∙◌, subst, cond, arith, append_assoc, append-nil, length-append, ◌⊎◌, inl, inr}
+use Rattle.std.specs.Prelude.{◌≡◌, ℕ, ◌+◌, Bool, true, false, not, ◌&&◌, ◌||◌, List, [], ◌∷◌, ◌++◌, map, Option, Some, None, is_some, refl}
+use Rattle.std.proofs.Common.{ap, sym, ◌∙◌, subst, arith, append_assoc, append-nil}
 use denote.Hole.Carrier.{out}
 use Rattle.c_tree.specs.declared.token.Pos.{Pos}
-use Rattle.c_tree.specs.declared.token.Punct.{Punct}
 use Rattle.c_tree.specs.declared.token.Punct.TheVariants as p
-use Rattle.c_tree.specs.declared.token.Keyword.{Keyword}
-use Rattle.c_tree.specs.declared.token.Keyword.TheVariants as word
 use Rattle.c_tree.specs.declared.token.Token.{Token}
 use Rattle.c_tree.specs.declared.token.TokenKind.{TokenKind}
-use Rattle.c_tree.specs.declared.token.TokenKind.TheVariants as k
 use Rattle.c_tree.specs.declared.specifier.Specifier.{Specifier, out-Specifier}
 use Rattle.c_tree.specs.declared.declarator.Pointer.{Pointer}
 use Rattle.c_tree.specs.declared.declarator.Declarator.{Declarator, out-Declarator}
 use Rattle.c_tree.specs.declared.declarator.Direct.{Direct, out-Direct}
 use Rattle.c_tree.specs.declared.declarator.DeclaratorSuffix.{DeclaratorSuffix}
 use Rattle.c_tree.specs.declared.declarator.Parameter.{Parameter as ParameterTree, out-Parameter, roll-Parameter, roll-out-Parameter}
-use Rattle.c_tree.specs.Spelling.Tokens.{punct, comma_at, joined}
-use Rattle.c_tree.specs.Spelling.Trees.{specifier_spelling, declarator_spelling, direct_spelling, declarator_suffix_spelling, parameter_spelling, declarator_spelling-is, parameter_spelling-is, direct_spelling-Nothing, direct_spelling-Named, direct_spelling-Grouped}
+use Rattle.c_tree.specs.Spelling.Trees.{declarator_spelling, parameter_spelling, parameter_spelling-is}
 use Rattle.c_tree.specs.Levels.Names.{Names, in_row}
-use Rattle.c_tree.specs.Levels.Facts.{filled, SpecifierKind, Storing, Qualifying, Voiding, Typing, Naming, has_typedef, facts_of_specifiers, Use, Declaring, Abstract, Parameter, declares, names_of, ParameterFacts}
-use Rattle.c_tree.specs.Levels.Trees.{specifier_level, declarator_level, direct_level, declarator_suffix_level, parameter_level, declarator_level-is, parameter_level-is, direct_level-Nothing, direct_level-Named, direct_level-Grouped, specifier_level-Storage, specifier_level-Const, specifier_level-Word, specifier_level-StructTag, specifier_level-Struct, specifier_level-EnumTag, specifier_level-Enum, specifier_level-TypedefName}
+use Rattle.c_tree.specs.Levels.Facts.{filled, SpecifierKind, has_typedef, facts_of_specifiers, Use, Declaring, Abstract, Parameter, declares, names_of}
+use Rattle.c_tree.specs.Levels.Trees.{specifier_level, declarator_level, direct_level, parameter_level, declarator_level-is, parameter_level-is, direct_level-Nothing, direct_level-Named, direct_level-Grouped, specifier_level-Storage, specifier_level-Const, specifier_level-Word, specifier_level-StructTag, specifier_level-Struct, specifier_level-EnumTag, specifier_level-Enum, specifier_level-TypedefName}
 use Rattle.c_tree.specs.Levels.OfTrees.{kind_of_word, is_typedef}
 use Rattle.c_tree.specs.declared.specifier.TypeWord.{TypeWord}
 use Rattle.c_tree.specs.declared.specifier.TypeWord.TheVariants as type
-use Rattle.c_tree.specs.Nesting.OfTrees.{deepest}
-use Rattle.c_tree.specs.Nesting.Trees.{declarator_nesting, parameter_nesting, parameter_nesting-is}
-use Rattle.c_grammar.specs.Punctuators.{same_mark}
-use Rattle.c_grammar.specs.Input.{Tokens, State, Parser, ◌>>=◌, pure, peek, behind, is_mark, sees, expect}
-use Rattle.c_grammar.specs.Read.Nodes.{is_type, name_type, is_typedef_word, have_typedef, is_nothing}
-use Rattle.c_grammar.specs.Read.Inner.{Inner, begins_specifier, is_void}
+use Rattle.c_tree.specs.Nesting.Trees.{parameter_nesting, parameter_nesting-is}
+use Rattle.c_grammar.specs.Input.{Tokens, State, Parser, ◌>>=◌, pure, is_mark, expect}
+use Rattle.c_grammar.specs.Read.Nodes.{is_type, name_type, is_typedef_word, have_typedef}
+use Rattle.c_grammar.specs.Read.Inner.{Inner, begins_specifier}
 use Rattle.c_grammar.specs.Read.Declarators.{parameter_behind, parameter, next_parameter}
 use Rattle.c_grammar.specs.Laws.Form.{Form, Exact, Node, Image, only, both, map_to, node_exact, same_exact, whole_exact, two, bind_same, open_seq, open_exact, declaring, declaring_form, declaring_exact, declaring_map}
-use Rattle.c_grammar.specs.Laws.Lists.{Items, all_good, all_added, all_stop, last_stop, list, left, added_in_row}
-use Rattle.c_grammar.specs.Laws.Single.{mark_form, expect_exact, sees_mark}
+use Rattle.c_grammar.specs.Laws.Lists.{all_stop, last_stop, left}
+use Rattle.c_grammar.specs.Laws.Single.{mark_form, expect_exact}
 use Rattle.c_grammar.specs.Laws.Rows.{pre, pre_exact, deeper}
 use Rattle.c_grammar.specs.Laws.Cases.{SpecifierShape, specifier_shape, DirectShape, direct_shape}
-use Rattle.c_grammar.specs.Laws.Behind.{both_true, both_are, peek_mark}
+use Rattle.c_grammar.specs.Laws.Behind.{both_true, both_are}
 use Rattle.c_grammar.specs.Laws.Starts.{peek_first}
-use Rattle.c_grammar.specs.Laws.Forms.{is_tag, specifier_items, specifiers_form, pointer_items, nothing_stop, is_no_name, middle_form, behind_items, parts_form, parts_of, declarator_form}
+use Rattle.c_grammar.specs.Laws.Forms.{is_tag, specifier_items, specifiers_form, pointer_items, nothing_stop, is_no_name, behind_items, parts_form, parts_of, declarator_form}
 use Rattle.c_grammar.specs.Laws.TypeNames.{form_told, form_is, types_are}
-use Rattle.c_grammar.specs.Laws.DeclaratorFacts.{First, FirstToken, declarator_first, unnamed_untyped, spelt_something, spelt_none, nothing_middle, nothing_adds, first_of}
+use Rattle.c_grammar.specs.Laws.DeclaratorFacts.{FirstToken, declarator_first, unnamed_untyped, spelt_something, spelt_none, nothing_middle, nothing_adds, first_of}
 
 -- ---- what stands behind a declarator does not depend on the names, where it has one
 
@@ -141,18 +134,20 @@ specifiers_by : (w s : Bool) (xs : List Specifier) (names : Names) (t : Token) (
     → all_stop (specifier_items w) s xs names (t ∷ ts)
 specifiers_by w s [] names t ts b h =
     ap (begins_specifier w s names) (peek_first t ts) ∙ subst (λ c. begins_specifier w c names (Some t.kind) ≡ false) (or_false s) h where
-  or_false : (b : Bool) → (b || false) ≡ b
-  or_false true = refl
-  or_false false = refl
+      or_false : (b : Bool) → (b || false) ≡ b
+      or_false true = refl
+      or_false false = refl
 specifiers_by w s (x ∷ xs) names t ts b h =
     (last_one xs, specifiers_by w (s || is_type x) xs names t ts b (subst (λ c. begins_specifier w c names (Some t.kind) ≡ false) (sym (or_assoc s (is_type x) (name_type xs))) h))
   where
     or_assoc : (a b c : Bool) → ((a || b) || c) ≡ (a || (b || c))
     or_assoc true b c = refl
     or_assoc false b c = refl
+
     and_no : (b : Bool) → (b && false) ≡ false
     and_no true = refl
     and_no false = refl
+
     last_one : (xs : List Specifier) → last_stop (specifier_items w) x xs names (t ∷ ts)
     last_one [] = ap (λ o. is_tag x && is_mark p.LeftBrace o) (peek_first t ts) ∙ ap (λ c. is_tag x && c) b ∙ and_no (is_tag x)
     last_one (y ∷ ys) = tt
@@ -243,12 +238,12 @@ module _ (more : ℕ) (inner : Inner) (specs : (w : Bool) → Exact (deeper (spe
 
 abbrev pub parameter_form : Form ParameterTree
 parameter_form = record {
-    spell = parameter_spelling;
-    good = λ names x. (parameter_level x names).0.good ≡ true;
-    adds = λ names x. (parameter_level x names).1;
-    nest = λ x. parameter_nesting x + 1;
-    stop = λ x names rest. parameter_parts.stop (parts_of_parameter x) names rest;
-  }
+  spell = parameter_spelling;
+  good = λ names x. (parameter_level x names).0.good ≡ true;
+  adds = λ names x. (parameter_level x names).1;
+  nest = λ x. parameter_nesting x + 1;
+  stop = λ x names rest. parameter_parts.stop (parts_of_parameter x) names rest;
+}
 
 abbrev raised : Form (List Specifier × Declarator)
 raised = open_seq (deeper (specifiers_form true)) (λ specifiers. deeper (parameter_declarator (have_typedef specifiers) (name_type specifiers)))
@@ -281,28 +276,28 @@ parameter_flat comma t = ap (λ n. n + 1) (parameter_nesting-is (parameter_with 
 
 first_node : Node raised (parameter_with None) parameter_form
 first_node = record {
-    good = λ names t g. parameter_good None names t g;
-    parts = λ names t g. good_parameter None names t g;
-    nested = parameter_flat None;
-    spelt = λ t. parameter_spelling-is (parameter_with None t);
-    seen = λ names t. parameter_seen None names t;
-    stop = λ names t behind rest g h. h;
-    from_stop = λ names t behind rest g h. h;
-  }
+  good = λ names t g. parameter_good None names t g;
+  parts = λ names t g. good_parameter None names t g;
+  nested = parameter_flat None;
+  spelt = λ t. parameter_spelling-is (parameter_with None t);
+  seen = λ names t. parameter_seen None names t;
+  stop = λ names t behind rest g h. h;
+  from_stop = λ names t behind rest g h. h;
+}
 
 abbrev next_of : Pos × (List Specifier × Declarator) → ParameterTree
 next_of t = parameter_with (Some t.0) t.1
 
 next_node : Node (pre (mark_form p.Comma) (λ _. raised)) next_of parameter_form
 next_node = record {
-    good = λ names t g. parameter_good (Some t.0) names t.1 g.1;
-    parts = λ names t g. (tt, good_parameter (Some t.0) names t.1 g);
-    nested = λ t. parameter_flat (Some t.0) t.1 ∙ omega arith;
-    spelt = λ t. parameter_spelling-is (next_of t);
-    seen = λ names t. parameter_seen (Some t.0) names t.1;
-    stop = λ names t behind rest g h. h;
-    from_stop = λ names t behind rest g h. h;
-  }
+  good = λ names t g. parameter_good (Some t.0) names t.1 g.1;
+  parts = λ names t g. (tt, good_parameter (Some t.0) names t.1 g);
+  nested = λ t. parameter_flat (Some t.0) t.1 ∙ omega arith;
+  spelt = λ t. parameter_spelling-is (next_of t);
+  seen = λ names t. parameter_seen (Some t.0) names t.1;
+  stop = λ names t behind rest g h. h;
+  from_stop = λ names t behind rest g h. h;
+}
 
 parameter_is : (inner : Inner) (more : ℕ) (comma : Option Pos) (i : State) → parameter more inner comma i ≡ map_to (parameter_reader inner) (parameter_with comma) i
 unfolding parameter
@@ -335,17 +330,25 @@ next_by x (Some at) e h = ((at, parts_of_parameter x), ap (λ c. roll-Parameter 
 
 first_made : Node raised (parameter_with None) first_parameter
 first_made = record {
-    good = λ names t g. (refl, first_node.good names t g);
-    parts = λ names t g. first_node.parts names t g.1;
-    nested = first_node.nested; spelt = first_node.spelt; seen = first_node.seen; stop = first_node.stop; from_stop = first_node.from_stop;
-  }
+  good = λ names t g. (refl, first_node.good names t g);
+  parts = λ names t g. first_node.parts names t g.1;
+  nested = first_node.nested;
+  spelt = first_node.spelt;
+  seen = first_node.seen;
+  stop = first_node.stop;
+  from_stop = first_node.from_stop;
+}
 
 next_made : Node (pre (mark_form p.Comma) (λ _. raised)) next_of next_form
 next_made = record {
-    good = λ names t g. (refl, next_node.good names t g);
-    parts = λ names t g. next_node.parts names t g.1;
-    nested = next_node.nested; spelt = next_node.spelt; seen = next_node.seen; stop = next_node.stop; from_stop = next_node.from_stop;
-  }
+  good = λ names t g. (refl, next_node.good names t g);
+  parts = λ names t g. next_node.parts names t g.1;
+  nested = next_node.nested;
+  spelt = next_node.spelt;
+  seen = next_node.seen;
+  stop = next_node.stop;
+  from_stop = next_node.from_stop;
+}
 
 next_reads : (inner : Inner) (more : ℕ) (i : State) → next_parameter more inner i ≡ map_to (both (expect p.Comma) (λ c. parameter_reader inner)) next_of i
 unfolding next_parameter
@@ -363,4 +366,4 @@ module _ (more : ℕ) (inner : Inner) (specs : (w : Bool) → Exact (deeper (spe
   next_exact =
       whole_exact (Image next_of) next_form more _ (λ names x g. next_by x (out-Parameter x).comma refl g.0)
       (same_exact (only (Image next_of) next_form) more _ _ (next_reads inner more) (node_exact (pre (mark_form p.Comma) (λ _. raised)) next_of next_form more _
-        (pre_exact (mark_form p.Comma) (λ _. raised) more (expect p.Comma) (λ c. parameter_reader inner) (λ names a. refl) (expect_exact p.Comma more) (λ _. parts_exact more inner specs declarators) (λ names a b rest g h s. tt)) next_made))
+      (pre_exact (mark_form p.Comma) (λ _. raised) more (expect p.Comma) (λ c. parameter_reader inner) (λ names a. refl) (expect_exact p.Comma more) (λ _. parts_exact more inner specs declarators) (λ names a b rest g h s. tt)) next_made))

@@ -1,6 +1,6 @@
 -- The pointers of a declarator are read exactly (C11 6.7.6.1).
-use Rattle.std.specs.Prelude.{◌≡◌, ℕ, ◌+◌, ◌≤◌, ◌<◌, max, Bool, true, false, ◌&&◌, List, [], ◌∷◌, ◌++◌, length, map, Option, Some, None, refl}
-use Rattle.std.proofs.Common.{ap, sym, ◌∙◌, subst, cond, arith, append_assoc, append-nil}
+use Rattle.std.specs.Prelude.{◌≡◌, ℕ, Bool, false, List, [], ◌∷◌, ◌++◌, map, Some, refl}
+use Rattle.std.proofs.Common.{ap, sym, arith}
 use Rattle.c_tree.specs.declared.token.Pos.{Pos}
 use Rattle.c_tree.specs.declared.token.Punct.TheVariants as p
 use Rattle.c_tree.specs.declared.token.Keyword.{Keyword}
@@ -11,10 +11,10 @@ use Rattle.c_tree.specs.declared.declarator.Pointer.{Pointer}
 use Rattle.c_tree.specs.Spelling.Tokens.{token, punct, keyword, consts, joined, pointers as pointers_spelling}
 use Rattle.c_tree.specs.Levels.Names.{Names}
 use Rattle.c_tree.specs.Nesting.OfTrees.{deepest}
-use Rattle.c_grammar.specs.Input.{Tokens, State, Parser, peek, sees, one, expect, many}
+use Rattle.c_grammar.specs.Input.{Tokens, State, peek, sees, one, expect, many}
 use Rattle.c_grammar.specs.Read.Inner.{is_const}
 use Rattle.c_grammar.specs.Read.Declarators.{const_at, pointer, pointers}
-use Rattle.c_grammar.specs.Laws.Form.{Form, Exact, Node, Image, only, both, node_exact, same_exact, whole_exact, two}
+use Rattle.c_grammar.specs.Laws.Form.{Form, Exact, Node, Image, only, node_exact, same_exact, whole_exact, two}
 use Rattle.c_grammar.specs.Laws.Lists.{Items, Kept, item, all_good, all_added, all_stop, list, list_exact, stop_goes, stop_made}
 use Rattle.c_grammar.specs.Laws.Single.{single, one_exact, always, mark_form, expect_exact, sees_mark}
 use Rattle.c_grammar.specs.Laws.Rows.{pre, pre_exact}
@@ -47,9 +47,14 @@ goes_const i = is_const (peek i.1)
 
 abbrev const_items : Items (Unit {0}) Pos
 const_items = record {
-    spell = const_form.spell; good = λ s. const_form.good; adds = const_form.adds; nest = const_form.nest; stop = const_form.stop;
-    goes = λ s. goes_const; step = λ s x. tt
-  }
+  spell = const_form.spell;
+  good = λ s. const_form.good;
+  adds = const_form.adds;
+  nest = const_form.nest;
+  stop = const_form.stop;
+  goes = λ s. goes_const;
+  step = λ s x. tt;
+}
 
 no_const : (names : Names) → goes_const (names, []) ≡ false
 unfolding peek
@@ -57,13 +62,13 @@ no_const names = refl
 
 consts_kept : (more : ℕ) → Kept const_items more (λ s. one const_at)
 consts_kept more = record {
-    sound = λ s names ts x end go h. (const_exact more).sound names ts x end h;
-    complete = λ s names x rest g n st. (const_exact more).complete names x rest g n st;
-    starts = λ s names x rest g st. ap is_const (peek_first (keyword word.Const x) rest);
-    ends = λ s names. no_const names;
-    follows = λ s names x y rest g h st. tt;
-    some = λ s names x g. omega arith;
-  }
+  sound = λ s names ts x end go h. (const_exact more).sound names ts x end h;
+  complete = λ s names x rest g n st. (const_exact more).complete names x rest g n st;
+  starts = λ s names x rest g st. ap is_const (peek_first (keyword word.Const x) rest);
+  ends = λ s names. no_const names;
+  follows = λ s names x y rest g h st. tt;
+  some = λ s names x g. omega arith;
+}
 
 consts_spelt : (xs : List Pos) → consts xs ≡ joined (map (λ a. keyword word.Const a ∷ []) xs)
 consts_spelt [] = refl
@@ -95,23 +100,23 @@ pointer_form = item pointer_items tt
 
 pointer_node : Node (pre (mark_form p.Star) (λ _. list const_items tt)) pointer_of pointer_form
 pointer_node = record {
-    good = λ names t g. tt;
-    parts = λ names t g. (tt, consts_good names t.1);
-    nested = λ t. sym (let e = consts_flat t.1 in omega arith);
-    spelt = λ t. ap (λ l. punct p.Star t.0 ∷ l) (consts_spelt t.1);
-    seen = λ names t. sym (consts_quiet names t.1);
-    stop = λ names t behind rest g h. stop_goes const_items tt t.1 behind rest h;
-    from_stop = λ names t behind rest g h. consts_stop t.1 behind rest h;
-  }
+  good = λ names t g. tt;
+  parts = λ names t g. (tt, consts_good names t.1);
+  nested = λ t. sym (let e = consts_flat t.1 in omega arith);
+  spelt = λ t. ap (λ l. punct p.Star t.0 ∷ l) (consts_spelt t.1);
+  seen = λ names t. sym (consts_quiet names t.1);
+  stop = λ names t behind rest g h. stop_goes const_items tt t.1 behind rest h;
+  from_stop = λ names t behind rest g h. consts_stop t.1 behind rest h;
+}
 
 pub pointer_exact : (more : ℕ) → Exact pointer_form more pointer
 unfolding pointer
 pointer_exact more =
     whole_exact (Image pointer_of) pointer_form more pointer (λ names q g. ((q.star, q.constants), refl))
     (same_exact (only (Image pointer_of) pointer_form) more _ pointer (two (expect p.Star) (λ star. many goes_const (one const_at)) (λ star constants. record { star = star; constants = constants }))
-      (node_exact (pre (mark_form p.Star) (λ _. list const_items tt)) pointer_of pointer_form more _
-        (pre_exact (mark_form p.Star) (λ _. list const_items tt) more (expect p.Star) (λ star. many goes_const (one const_at)) (λ names a. refl) (expect_exact p.Star more)
-          (λ _. list_exact const_items more (λ s. one const_at) (consts_kept more) tt) (λ names a b rest g h s. tt)) pointer_node))
+    (node_exact (pre (mark_form p.Star) (λ _. list const_items tt)) pointer_of pointer_form more _
+    (pre_exact (mark_form p.Star) (λ _. list const_items tt) more (expect p.Star) (λ star. many goes_const (one const_at)) (λ names a. refl) (expect_exact p.Star more)
+    (λ _. list_exact const_items more (λ s. one const_at) (consts_kept more) tt) (λ names a b rest g h s. tt)) pointer_node))
 
 no_star : (names : Names) → sees p.Star (names, []) ≡ false
 unfolding peek
@@ -119,13 +124,13 @@ no_star names = refl
 
 pub pointers_kept : (more : ℕ) → Kept pointer_items more (λ s. pointer)
 pointers_kept more = record {
-    sound = λ s names ts x end go h. (pointer_exact more).sound names ts x end h;
-    complete = λ s names x rest g n st. (pointer_exact more).complete names x rest g n st;
-    starts = λ s names x rest g st. sees_mark p.Star names x.star (consts x.constants ++ rest);
-    ends = λ s names. no_star names;
-    follows = λ s names x y rest g h st. ap is_const (peek_mark p.Star y.star (consts y.constants ++ rest));
-    some = λ s names x g. omega arith;
-  }
+  sound = λ s names ts x end go h. (pointer_exact more).sound names ts x end h;
+  complete = λ s names x rest g n st. (pointer_exact more).complete names x rest g n st;
+  starts = λ s names x rest g st. sees_mark p.Star names x.star (consts x.constants ++ rest);
+  ends = λ s names. no_star names;
+  follows = λ s names x y rest g h st. ap is_const (peek_mark p.Star y.star (consts y.constants ++ rest));
+  some = λ s names x g. omega arith;
+}
 
 pub pointers_exact : (more : ℕ) → Exact (list pointer_items tt) more pointers
 unfolding pointers

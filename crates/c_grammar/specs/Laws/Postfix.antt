@@ -1,35 +1,32 @@
 -- Suffixes, and postfix expressions, are read exactly (C11 6.5.2).
-use Rattle.std.specs.Prelude.{◌≡◌, ℕ, zero, suc, ◌+◌, ◌≤◌, ◌<◌, max, Bool, true, false, not, ◌&&◌, ◌||◌, if◌then◌else◌, nat_le, List, [], ◌∷◌, ◌++◌, length, map, Option, Some, None, Ok, refl}
-use Rattle.std.proofs.Common.{ap, sym, ◌∙◌, subst, cond, arith, append_assoc, append-nil, ◌⊎◌, inl, inr}
+use Rattle.std.specs.Prelude.{◌≡◌, ℕ, ◌+◌, ◌≤◌, ◌<◌, max, Bool, true, false, not, ◌&&◌, if◌then◌else◌, nat_le, List, [], ◌∷◌, ◌++◌, length, map, refl}
+use Rattle.std.proofs.Common.{ap, sym, ◌∙◌, subst, arith, append_assoc, append-nil, ◌⊎◌, inl, inr}
 use Rattle.c_tree.specs.declared.token.Pos.{Pos}
 use Rattle.c_tree.specs.declared.token.Punct.{Punct}
 use Rattle.c_tree.specs.declared.token.Punct.TheVariants as p
-use Rattle.c_tree.specs.declared.token.TokenKind.{TokenKind}
-use Rattle.c_tree.specs.declared.token.TokenKind.TheVariants as k
 use Rattle.c_tree.specs.declared.expression.Identifier.{Identifier}
 use Rattle.c_tree.specs.declared.expression.Expr.{Expr}
 use Rattle.c_tree.specs.declared.expression.Expr.TheVariants as expr
 use Rattle.c_tree.specs.declared.expression.Next.{Next}
 use Rattle.c_tree.specs.declared.expression.Suffix.{Suffix}
 use Rattle.c_tree.specs.declared.expression.Suffix.TheVariants as suffix
-use Rattle.c_tree.specs.Spelling.Tokens.{token, punct, joined, name as name_token}
+use Rattle.c_tree.specs.Spelling.Tokens.{punct, joined}
 use Rattle.c_tree.specs.Spelling.Trees.{expr_spelling, suffix_spelling, next_spelling, expr_spelling-Postfix, suffix_spelling-Index, suffix_spelling-Call, suffix_spelling-CallWith, suffix_spelling-Member, suffix_spelling-Arrow, suffix_spelling-Increment, suffix_spelling-Decrement}
 use Rattle.c_tree.specs.Levels.Names.{Names, in_row}
-use Rattle.c_tree.specs.Levels.Productions.{primary, postfix, prefixed, unary, cast, assignment, comma, none, joins}
-use Rattle.c_tree.specs.Levels.Facts.{filled, all_good as all_true, where_good, operands}
-use Rattle.c_tree.specs.Levels.Trees.{expr_level, next_level, suffix_level, expr_level-Postfix, suffix_level-Index, suffix_level-Call, suffix_level-CallWith, suffix_level-Member, suffix_level-Arrow, suffix_level-Increment, suffix_level-Decrement}
+use Rattle.c_tree.specs.Levels.Productions.{primary, postfix, unary, cast, assignment, comma, none, joins}
+use Rattle.c_tree.specs.Levels.Facts.{all_good as all_true}
+use Rattle.c_tree.specs.Levels.Trees.{expr_level, suffix_level, expr_level-Postfix, suffix_level-Index, suffix_level-Call, suffix_level-CallWith, suffix_level-Member, suffix_level-Arrow, suffix_level-Increment, suffix_level-Decrement}
 use Rattle.c_tree.specs.Nesting.OfTrees.{deepest}
 use Rattle.c_tree.specs.Nesting.Trees.{expr_nesting, next_nesting, suffix_nesting, expr_nesting-Postfix, suffix_nesting-Index, suffix_nesting-Call, suffix_nesting-CallWith, suffix_nesting-Member, suffix_nesting-Arrow, suffix_nesting-Increment, suffix_nesting-Decrement}
-use Rattle.c_grammar.specs.Input.{Tokens, State, Parser, ◌>>=◌, pure, choose, peek, is_mark, sees, goes, one, expect, identifier, opening, many}
-use Rattle.c_grammar.specs.Punctuators.{same_mark}
+use Rattle.c_grammar.specs.Input.{Tokens, State, Parser, ◌>>=◌, pure, choose, peek, sees, goes, expect, identifier, opening, many}
 use Rattle.c_grammar.specs.Read.Nodes.{with_suffixes, begins_cast}
 use Rattle.c_grammar.specs.Read.Inner.{Inner}
 use Rattle.c_grammar.specs.Read.Expressions.{after_operator, nexts, primary as read_primary, index, no_arguments, arguments, call, member, arrow, increment, decrement, one_suffix, postfixed}
 use Rattle.c_grammar.specs.Ending.OfTrees.{Ending, plain}
 use Rattle.c_grammar.specs.Ending.Trees.{expr_ending, expr_ending-Name, expr_ending-Number, expr_ending-Char, expr_ending-Strings, expr_ending-Paren, expr_ending-Postfix}
 use Rattle.c_grammar.specs.Laws.Form.{Form, Exact, Node, Image, Split, Joint, only, both, map_to, node_exact, joint_exact, same_exact, choose_exact, whole_exact, two, three, bind_same, choose_same, choose_map, either, either_exact}
-use Rattle.c_grammar.specs.Laws.Lists.{Items, Kept, all_good, all_added, all_stop, chain, chain_exact, last_of, left, stop_goes, stop_last, stop_made, added_in_row}
-use Rattle.c_grammar.specs.Laws.Single.{single, mark_form, expect_exact, name_form, identifier_exact, sees_mark}
+use Rattle.c_grammar.specs.Laws.Lists.{Items, Kept, all_good, chain, chain_exact, last_of, stop_goes, stop_made, added_in_row}
+use Rattle.c_grammar.specs.Laws.Single.{mark_form, expect_exact, name_form, identifier_exact, sees_mark}
 use Rattle.c_grammar.specs.Laws.Rows.{pre, pre_exact, deeper, opened, opened_exact, closed, closed_exact, bracketed, bracketed_exact}
 use Rattle.c_grammar.specs.Laws.Cases.{ExprShape, expr_shape, SuffixShape, suffix_shape}
 use Rattle.c_grammar.specs.Laws.Behind.{goes_on, expr_form, both_true, both_are, nat_le-true, nat_le-is, good_of, where_is, before_mark, goes_mark, goes_end, next_level as next_production, no_goes, primary_stop}
@@ -40,12 +37,12 @@ use Rattle.c_grammar.specs.Laws.Starts.{Begins, begins_seen, image_begins, opens
 
 abbrev pub suffix_form : Form Suffix
 suffix_form = record {
-    spell = suffix_spelling;
-    good = λ names x. (suffix_level x names).0 ≡ true;
-    adds = λ names x. (suffix_level x names).1;
-    nest = suffix_nesting;
-    stop = λ x names rest. Unit {0};
-  }
+  spell = suffix_spelling;
+  good = λ names x. (suffix_level x names).0 ≡ true;
+  adds = λ names x. (suffix_level x names).1;
+  nest = suffix_nesting;
+  stop = λ x names rest. Unit {0};
+}
 
 -- ---- an index
 
@@ -54,21 +51,21 @@ index_of t = suffix.Index t.0.0 t.0.1 t.1
 
 index_node : Node (bracketed p.LeftBracket (deeper (expr_form comma)) p.RightBracket) index_of suffix_form
 index_node = record {
-    good = λ names t g. ap (λ f. (f names).0) (suffix_level-Index t.0.0 t.0.1 t.1) ∙ nat_le-is (expr_level t.0.1 names).0 comma g.0.1;
-    parts = λ names t g. ((tt, nat_le-true (expr_level t.0.1 names).0 comma (sym (ap (λ f. (f names).0) (suffix_level-Index t.0.0 t.0.1 t.1)) ∙ g)), tt);
-    nested = λ t. suffix_nesting-Index t.0.0 t.0.1 t.1 ∙ omega arith;
-    spelt = λ t. suffix_spelling-Index t.0.0 t.0.1 t.1;
-    seen = λ names t. ap (λ f. (f names).1) (suffix_level-Index t.0.0 t.0.1 t.1);
-    stop = λ names t behind rest g h. tt;
-    from_stop = λ names t behind rest g h. tt;
-  }
+  good = λ names t g. ap (λ f. (f names).0) (suffix_level-Index t.0.0 t.0.1 t.1) ∙ nat_le-is (expr_level t.0.1 names).0 comma g.0.1;
+  parts = λ names t g. ((tt, nat_le-true (expr_level t.0.1 names).0 comma (sym (ap (λ f. (f names).0) (suffix_level-Index t.0.0 t.0.1 t.1)) ∙ g)), tt);
+  nested = λ t. suffix_nesting-Index t.0.0 t.0.1 t.1 ∙ omega arith;
+  spelt = λ t. suffix_spelling-Index t.0.0 t.0.1 t.1;
+  seen = λ names t. ap (λ f. (f names).1) (suffix_level-Index t.0.0 t.0.1 t.1);
+  stop = λ names t behind rest g h. tt;
+  from_stop = λ names t behind rest g h. tt;
+}
 
 index_exact : (more : ℕ) (inner : Inner) → Exact (deeper (expr_form comma)) more (inner.expr comma) → Exact (only (Image index_of) suffix_form) more (index more inner)
 unfolding index
 index_exact more inner exact =
     same_exact (only (Image index_of) suffix_form) more _ (index more inner) (three (opening more p.LeftBracket) (λ from. inner.expr comma) (λ from x. expect p.RightBracket) (λ from x to. suffix.Index from x to))
     (node_exact (bracketed p.LeftBracket (deeper (expr_form comma)) p.RightBracket) index_of suffix_form more _
-      (bracketed_exact p.LeftBracket (deeper (expr_form comma)) p.RightBracket more (inner.expr comma) exact (λ names x at rest g. before_mark comma (expr_ending x) p.RightBracket at rest (omega arith))) index_node)
+    (bracketed_exact p.LeftBracket (deeper (expr_form comma)) p.RightBracket more (inner.expr comma) exact (λ names x at rest g. before_mark comma (expr_ending x) p.RightBracket at rest (omega arith))) index_node)
 
 -- ---- a call
 
@@ -127,14 +124,14 @@ call_stop (inr t) behind rest = tt
 
 call_node : Node (opened p.LeftParen call_tail) call_of suffix_form
 call_node = record {
-    good = λ names t g. call_good names t.0 t.1 g.1;
-    parts = λ names t g. (tt, call_parts names t.0 t.1 g);
-    nested = λ t. call_nested t.0 t.1;
-    spelt = λ t. call_spelt t.0 t.1;
-    seen = λ names t. call_seen names t.0 t.1;
-    stop = λ names t behind rest g h. tt;
-    from_stop = λ names t behind rest g h. call_stop t.1 behind rest;
-  }
+  good = λ names t g. call_good names t.0 t.1 g.1;
+  parts = λ names t g. (tt, call_parts names t.0 t.1 g);
+  nested = λ t. call_nested t.0 t.1;
+  spelt = λ t. call_spelt t.0 t.1;
+  seen = λ names t. call_seen names t.0 t.1;
+  stop = λ names t behind rest g h. tt;
+  from_stop = λ names t behind rest g h. call_stop t.1 behind rest;
+}
 
 -- a mark of a looser production, or of none, stands behind operands
 pub list_before_mark : (within level : ℕ) (raise : ℕ → ℕ) (names : Names) (a : Expr) (ns : List Next) (op : Punct) (at : Pos) (rest : Tokens) → level < joins op → within < level → level < none
@@ -154,11 +151,11 @@ call_is : (more : ℕ) (inner : Inner) (i : State) → call more inner i ≡ map
 unfolding call
 call_is more inner i =
     let tail : Pos → Parser (Pos ⊎ ((Expr × List Next) × Pos)) =
-          λ from. choose (sees p.RightParen) (map_to (expect p.RightParen) inl) (map_to (both (both (inner.expr assignment) (λ first. nexts comma (inner.expr assignment))) (λ t. expect p.RightParen)) inr) in
+    λ from. choose (sees p.RightParen) (map_to (expect p.RightParen) inl) (map_to (both (both (inner.expr assignment) (λ first. nexts comma (inner.expr assignment))) (λ t. expect p.RightParen)) inr) in
     bind_same (opening more p.LeftParen) (λ from. choose (sees p.RightParen) (no_arguments more inner from) (arguments more inner from)) (λ from. tail from >>= (λ u. pure (call_by from u)))
-      (λ from j. choose_same (sees p.RightParen) (no_arguments more inner from) (arguments more inner from) (no_arguments more inner from) _ (λ j. refl)
-        (λ j. three (inner.expr assignment) (λ first. nexts comma (inner.expr assignment)) (λ first rest. expect p.RightParen) (λ first rest to. suffix.CallWith from first rest to) j) j
-        ∙ choose_map (sees p.RightParen) (expect p.RightParen) (both (both (inner.expr assignment) (λ first. nexts comma (inner.expr assignment))) (λ t. expect p.RightParen)) (call_by from) j) i
+    (λ from j. choose_same (sees p.RightParen) (no_arguments more inner from) (arguments more inner from) (no_arguments more inner from) _ (λ j. refl)
+    (λ j. three (inner.expr assignment) (λ first. nexts comma (inner.expr assignment)) (λ first rest. expect p.RightParen) (λ first rest to. suffix.CallWith from first rest to) j) j
+    ∙ choose_map (sees p.RightParen) (expect p.RightParen) (both (both (inner.expr assignment) (λ first. nexts comma (inner.expr assignment))) (λ t. expect p.RightParen)) (call_by from) j) i
     ∙ two (opening more p.LeftParen) tail call_by i
 
 call_exact : (more : ℕ) (inner : Inner) → Exact (deeper (expr_form assignment)) more (inner.expr assignment) → Exact (only (Image call_of) suffix_form) more (call more inner)
@@ -166,14 +163,14 @@ unfolding nexts
 call_exact more inner exact =
     same_exact (only (Image call_of) suffix_form) more _ (call more inner) (call_is more inner)
     (node_exact (opened p.LeftParen call_tail) call_of suffix_form more _
-      (opened_exact p.LeftParen call_tail more _
-        (either_exact (mark_form p.RightParen) (closed arguments_form p.RightParen) more (sees p.RightParen) (expect p.RightParen) _ (expect_exact p.RightParen more)
-          (closed_exact arguments_form p.RightParen more _
-            (chain_exact (expr_at assignment up) (next_items comma assignment up) (λ a. tt) more (inner.expr assignment) (λ s. after_operator (inner.expr assignment)) exact
-              (nexts_kept comma assignment up up_is (omega arith) (omega arith) more (inner.expr assignment) exact)
-              (λ names a n rest g h st. before_next assignment comma (expr_ending a) n rest (omega arith) h.0)) args_close)
-          (λ names at rest g st. sees_mark p.RightParen names at rest)
-          (λ names t rest g st. ap (λ l. sees p.RightParen (names, l)) (argument_first t.0.0 t.0.1 t.1 rest) ∙ opens names t.0.0 _ (let a = g.0.0 in omega arith)))) call_node)
+    (opened_exact p.LeftParen call_tail more _
+    (either_exact (mark_form p.RightParen) (closed arguments_form p.RightParen) more (sees p.RightParen) (expect p.RightParen) _ (expect_exact p.RightParen more)
+    (closed_exact arguments_form p.RightParen more _
+    (chain_exact (expr_at assignment up) (next_items comma assignment up) (λ a. tt) more (inner.expr assignment) (λ s. after_operator (inner.expr assignment)) exact
+    (nexts_kept comma assignment up up_is (omega arith) (omega arith) more (inner.expr assignment) exact)
+    (λ names a n rest g h st. before_next assignment comma (expr_ending a) n rest (omega arith) h.0)) args_close)
+    (λ names at rest g st. sees_mark p.RightParen names at rest)
+    (λ names t rest g st. ap (λ l. sees p.RightParen (names, l)) (argument_first t.0.0 t.0.1 t.1 rest) ∙ opens names t.0.0 _ (let a = g.0.0 in omega arith)))) call_node)
   where
     argument_first : (a : Expr) (ns : List Next) (to : Pos) (rest : Tokens) → (((expr_spelling a ++ joined (map next_spelling ns)) ++ punct p.RightParen to ∷ []) ++ rest) ≡ expr_spelling a ++ (joined (map next_spelling ns) ++ (punct p.RightParen to ∷ rest))
     argument_first a ns to rest = simp append_assoc
@@ -185,50 +182,50 @@ member_of t = suffix.Member t.0 t.1
 
 member_node : Node (pre (mark_form p.Dot) (λ _. name_form)) member_of suffix_form
 member_node = record {
-    good = λ names t g. ap (λ f. (f names).0) (suffix_level-Member t.0 t.1);
-    parts = λ names t g. (tt, tt);
-    nested = λ t. suffix_nesting-Member t.0 t.1 ∙ omega arith;
-    spelt = λ t. suffix_spelling-Member t.0 t.1;
-    seen = λ names t. ap (λ f. (f names).1) (suffix_level-Member t.0 t.1);
-    stop = λ names t behind rest g h. tt;
-    from_stop = λ names t behind rest g h. tt;
-  }
+  good = λ names t g. ap (λ f. (f names).0) (suffix_level-Member t.0 t.1);
+  parts = λ names t g. (tt, tt);
+  nested = λ t. suffix_nesting-Member t.0 t.1 ∙ omega arith;
+  spelt = λ t. suffix_spelling-Member t.0 t.1;
+  seen = λ names t. ap (λ f. (f names).1) (suffix_level-Member t.0 t.1);
+  stop = λ names t behind rest g h. tt;
+  from_stop = λ names t behind rest g h. tt;
+}
 
 abbrev arrow_of : Pos × Identifier → Suffix
 arrow_of t = suffix.Arrow t.0 t.1
 
 arrow_node : Node (pre (mark_form p.Arrow) (λ _. name_form)) arrow_of suffix_form
 arrow_node = record {
-    good = λ names t g. ap (λ f. (f names).0) (suffix_level-Arrow t.0 t.1);
-    parts = λ names t g. (tt, tt);
-    nested = λ t. suffix_nesting-Arrow t.0 t.1 ∙ omega arith;
-    spelt = λ t. suffix_spelling-Arrow t.0 t.1;
-    seen = λ names t. ap (λ f. (f names).1) (suffix_level-Arrow t.0 t.1);
-    stop = λ names t behind rest g h. tt;
-    from_stop = λ names t behind rest g h. tt;
-  }
+  good = λ names t g. ap (λ f. (f names).0) (suffix_level-Arrow t.0 t.1);
+  parts = λ names t g. (tt, tt);
+  nested = λ t. suffix_nesting-Arrow t.0 t.1 ∙ omega arith;
+  spelt = λ t. suffix_spelling-Arrow t.0 t.1;
+  seen = λ names t. ap (λ f. (f names).1) (suffix_level-Arrow t.0 t.1);
+  stop = λ names t behind rest g h. tt;
+  from_stop = λ names t behind rest g h. tt;
+}
 
 increment_node : Node (mark_form p.Increment) suffix.Increment suffix_form
 increment_node = record {
-    good = λ names t g. ap (λ f. (f names).0) (suffix_level-Increment t);
-    parts = λ names t g. tt;
-    nested = λ t. suffix_nesting-Increment t;
-    spelt = λ t. suffix_spelling-Increment t;
-    seen = λ names t. ap (λ f. (f names).1) (suffix_level-Increment t);
-    stop = λ names t behind rest g h. tt;
-    from_stop = λ names t behind rest g h. tt;
-  }
+  good = λ names t g. ap (λ f. (f names).0) (suffix_level-Increment t);
+  parts = λ names t g. tt;
+  nested = λ t. suffix_nesting-Increment t;
+  spelt = λ t. suffix_spelling-Increment t;
+  seen = λ names t. ap (λ f. (f names).1) (suffix_level-Increment t);
+  stop = λ names t behind rest g h. tt;
+  from_stop = λ names t behind rest g h. tt;
+}
 
 decrement_node : Node (mark_form p.Decrement) suffix.Decrement suffix_form
 decrement_node = record {
-    good = λ names t g. ap (λ f. (f names).0) (suffix_level-Decrement t);
-    parts = λ names t g. tt;
-    nested = λ t. suffix_nesting-Decrement t;
-    spelt = λ t. suffix_spelling-Decrement t;
-    seen = λ names t. ap (λ f. (f names).1) (suffix_level-Decrement t);
-    stop = λ names t behind rest g h. tt;
-    from_stop = λ names t behind rest g h. tt;
-  }
+  good = λ names t g. ap (λ f. (f names).0) (suffix_level-Decrement t);
+  parts = λ names t g. tt;
+  nested = λ t. suffix_nesting-Decrement t;
+  spelt = λ t. suffix_spelling-Decrement t;
+  seen = λ names t. ap (λ f. (f names).1) (suffix_level-Decrement t);
+  stop = λ names t behind rest g h. tt;
+  from_stop = λ names t behind rest g h. tt;
+}
 
 mark_and_name : (op : Punct) (more : ℕ) → Exact (pre (mark_form op) (λ _. name_form)) more (both (expect op) (λ at. identifier))
 mark_and_name op more = pre_exact (mark_form op) (λ _. name_form) more (expect op) (λ at. identifier) (λ names a. refl) (expect_exact op more) (λ _. identifier_exact more) (λ names a b rest g h s. tt)
@@ -352,20 +349,20 @@ unfolding one_suffix
 suffix_exact more inner inside =
     whole_exact W5 suffix_form more _ (λ names x g. suffix_is (suffix_shape x))
     (choose_exact (Image index_of) W4 suffix_form more (sees p.LeftBracket) (index more inner) _ (index_exact more inner inside.comma_is)
-      (choose_exact (Image call_of) W3 suffix_form more (sees p.LeftParen) (call more inner) _ (call_exact more inner inside.assignment_is)
-        (choose_exact (Image member_of) W2 suffix_form more (sees p.Dot) (member more inner) _ (member_exact more inner)
-          (choose_exact (Image arrow_of) W1 suffix_form more (sees p.Arrow) (arrow more inner) _ (arrow_exact more inner)
-            (choose_exact (Image suffix.Increment) (Image suffix.Decrement) suffix_form more (sees p.Increment) (increment more inner) (decrement more inner) (increment_exact more inner) (decrement_exact more inner)
-              (λ names x rest i g s. begins_seen p.Increment p.Increment names _ rest true (increment_begins x i) refl)
-              (λ names x rest i g s. begins_seen p.Increment p.Decrement names _ rest false (decrement_begins x i) refl))
-            (λ names x rest i g s. begins_seen p.Arrow p.Arrow names _ rest true (arrow_begins x i) refl)
-            (λ names x rest i g s. not_arrow names x rest i))
-          (λ names x rest i g s. begins_seen p.Dot p.Dot names _ rest true (member_begins x i) refl)
-          (λ names x rest i g s. not_dot names x rest i))
-        (λ names x rest i g s. begins_seen p.LeftParen p.LeftParen names _ rest true (call_begins x i) refl)
-        (λ names x rest i g s. not_paren names x rest i))
-      (λ names x rest i g s. begins_seen p.LeftBracket p.LeftBracket names _ rest true (index_begins x i) refl)
-      (λ names x rest i g s. not_bracket names x rest i))
+    (choose_exact (Image call_of) W3 suffix_form more (sees p.LeftParen) (call more inner) _ (call_exact more inner inside.assignment_is)
+    (choose_exact (Image member_of) W2 suffix_form more (sees p.Dot) (member more inner) _ (member_exact more inner)
+    (choose_exact (Image arrow_of) W1 suffix_form more (sees p.Arrow) (arrow more inner) _ (arrow_exact more inner)
+    (choose_exact (Image suffix.Increment) (Image suffix.Decrement) suffix_form more (sees p.Increment) (increment more inner) (decrement more inner) (increment_exact more inner) (decrement_exact more inner)
+    (λ names x rest i g s. begins_seen p.Increment p.Increment names _ rest true (increment_begins x i) refl)
+    (λ names x rest i g s. begins_seen p.Increment p.Decrement names _ rest false (decrement_begins x i) refl))
+    (λ names x rest i g s. begins_seen p.Arrow p.Arrow names _ rest true (arrow_begins x i) refl)
+    (λ names x rest i g s. not_arrow names x rest i))
+    (λ names x rest i g s. begins_seen p.Dot p.Dot names _ rest true (member_begins x i) refl)
+    (λ names x rest i g s. not_dot names x rest i))
+    (λ names x rest i g s. begins_seen p.LeftParen p.LeftParen names _ rest true (call_begins x i) refl)
+    (λ names x rest i g s. not_paren names x rest i))
+    (λ names x rest i g s. begins_seen p.LeftBracket p.LeftBracket names _ rest true (index_begins x i) refl)
+    (λ names x rest i g s. not_bracket names x rest i))
 
 -- ---- a primary expression and the suffixes behind it
 
@@ -393,9 +390,14 @@ primary_size (ExprShape.a_comma a ns) names h = absurd (above_primary (ExprShape
 
 abbrev pub suffix_items : Items (Unit {0}) Suffix
 suffix_items = record {
-    spell = suffix_spelling; good = λ s. suffix_form.good; adds = suffix_form.adds; nest = suffix_nesting; stop = suffix_form.stop;
-    goes = λ s. goes postfix; step = λ s x. tt
-  }
+  spell = suffix_spelling;
+  good = λ s. suffix_form.good;
+  adds = suffix_form.adds;
+  nest = suffix_nesting;
+  stop = suffix_form.stop;
+  goes = λ s. goes postfix;
+  step = λ s x. tt;
+}
 
 mark_of_suffix : {x : Suffix} (s : SuffixShape x) → joins (suffix_mark s) ≡ postfix
 mark_of_suffix (SuffixShape.a_index from inner to) = refl
@@ -424,13 +426,13 @@ some_suffix x = rw ((suffix_first (suffix_shape x)).spelt) (omega arith)
 
 suffixes_kept : (more : ℕ) (inner : Inner) → InsideExpr more inner → Kept suffix_items more (λ s. one_suffix more inner)
 suffixes_kept more inner inside = record {
-    sound = λ s names ts x end go h. (suffix_exact more inner inside).sound names ts x end h;
-    complete = λ s names x rest g n st. (suffix_exact more inner inside).complete names x rest g n st;
-    starts = λ s names x rest g st. suffix_goes names x rest;
-    ends = λ s names. goes_end postfix names (omega arith);
-    follows = λ s names x y rest g h st. tt;
-    some = λ s names x g. some_suffix x;
-  }
+  sound = λ s names ts x end go h. (suffix_exact more inner inside).sound names ts x end h;
+  complete = λ s names x rest g n st. (suffix_exact more inner inside).complete names x rest g n st;
+  starts = λ s names x rest g st. suffix_goes names x rest;
+  ends = λ s names. goes_end postfix names (omega arith);
+  follows = λ s names x y rest g h st. tt;
+  some = λ s names x g. some_suffix x;
+}
 
 suffixes_good : (names : Names) (xs : List Suffix) → all_good suffix_items tt names xs → all_true (in_row (map suffix_level xs) names).0 ≡ true
 suffixes_good names [] g = refl
@@ -507,19 +509,19 @@ postfix_from_stop names a (x ∷ xs) behind rest g h =
 
 postfix_joint : Joint postfix_form (λ t. with_suffixes t.0 t.1) (expr_form postfix)
 postfix_joint = record {
-    good = λ names t g. postfix_good names t.0 t.1 g;
-    split = λ names x g. postfix_split (expr_shape x) names g;
-    nested = λ t. postfix_nested t.0 t.1;
-    spelt = λ t. postfix_spelt t.0 t.1;
-    seen = λ names t. postfix_seen names t.0 t.1;
-    stop = λ names t behind rest g h. postfix_stop t.0 t.1 behind rest h;
-    from_stop = λ names t behind rest g h. postfix_from_stop names t.0 t.1 behind rest g.0 h;
-  }
+  good = λ names t g. postfix_good names t.0 t.1 g;
+  split = λ names x g. postfix_split (expr_shape x) names g;
+  nested = λ t. postfix_nested t.0 t.1;
+  spelt = λ t. postfix_spelt t.0 t.1;
+  seen = λ names t. postfix_seen names t.0 t.1;
+  stop = λ names t behind rest g h. postfix_stop t.0 t.1 behind rest h;
+  from_stop = λ names t behind rest g h. postfix_from_stop names t.0 t.1 behind rest g.0 h;
+}
 
 pub postfix_exact : (more : ℕ) (inner : Inner) → InsideExpr more inner → Exact (expr_form postfix) more (postfixed more inner)
 unfolding postfixed
 postfix_exact more inner inside =
     same_exact (expr_form postfix) more _ (postfixed more inner) (two (read_primary more inner) (λ a. many (goes postfix) (one_suffix more inner)) with_suffixes)
     (joint_exact postfix_form (λ t. with_suffixes t.0 t.1) (expr_form postfix) more _
-      (chain_exact (expr_form primary) suffix_items (λ a. tt) more (read_primary more inner) (λ s. one_suffix more inner) (primary_exact more inner inside.comma_is) (suffixes_kept more inner inside)
-        (λ names a x rest g h st. before_suffix primary (expr_ending a) x rest (omega arith))) postfix_joint)
+    (chain_exact (expr_form primary) suffix_items (λ a. tt) more (read_primary more inner) (λ s. one_suffix more inner) (primary_exact more inner inside.comma_is) (suffixes_kept more inner inside)
+    (λ names a x rest g h st. before_suffix primary (expr_ending a) x rest (omega arith))) postfix_joint)

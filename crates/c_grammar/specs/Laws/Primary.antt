@@ -1,8 +1,7 @@
 -- Primary expressions are read exactly.
-use Rattle.std.specs.Prelude.{◌≡◌, ℕ, zero, suc, ◌+◌, ◌≤◌, ◌<◌, max, Bool, true, false, not, ◌&&◌, ◌||◌, if◌then◌else◌, nat_le, List, [], ◌∷◌, ◌++◌, map, Option, Some, None, Ok, refl}
-use Rattle.std.proofs.Common.{ap, sym, ◌∙◌, subst, cond, arith, append_assoc, append-nil, ◌⊎◌, inl, inr}
+use Rattle.std.specs.Prelude.{◌≡◌, ℕ, ◌≤◌, ◌<◌, Bool, true, false, not, if◌then◌else◌, List, [], ◌∷◌, ◌++◌, map, Option, Some, None, refl}
+use Rattle.std.proofs.Common.{ap, sym, ◌∙◌, subst, arith, ◌⊎◌, inl, inr}
 use Rattle.c_tree.specs.declared.token.Pos.{Pos}
-use Rattle.c_tree.specs.declared.token.Punct.{Punct}
 use Rattle.c_tree.specs.declared.token.Punct.TheVariants as p
 use Rattle.c_tree.specs.declared.token.IntKind.{IntKind}
 use Rattle.c_tree.specs.declared.token.TokenKind.{TokenKind}
@@ -12,21 +11,21 @@ use Rattle.c_tree.specs.declared.expression.Identifier.{Identifier}
 use Rattle.c_tree.specs.declared.expression.Literal.{Literal}
 use Rattle.c_tree.specs.declared.expression.Expr.{Expr}
 use Rattle.c_tree.specs.declared.expression.Expr.TheVariants as expr
-use Rattle.c_tree.specs.Spelling.Tokens.{token, punct, literal, literals, joined}
+use Rattle.c_tree.specs.Spelling.Tokens.{token, literal, literals, joined}
 use Rattle.c_tree.specs.Spelling.Trees.{expr_spelling, expr_spelling-Name, expr_spelling-Number, expr_spelling-Char, expr_spelling-Strings, expr_spelling-Paren}
 use Rattle.c_tree.specs.Levels.Names.{Names, is_typedef_name}
-use Rattle.c_tree.specs.Levels.Productions.{primary, unary, cast, comma, none}
-use Rattle.c_tree.specs.Levels.Facts.{filled, where_good}
+use Rattle.c_tree.specs.Levels.Productions.{primary, unary, cast, comma}
+use Rattle.c_tree.specs.Levels.Facts.{filled}
 use Rattle.c_tree.specs.Levels.Trees.{expr_level, expr_level-Name, expr_level-Number, expr_level-Char, expr_level-Strings, expr_level-Paren}
 use Rattle.c_tree.specs.Nesting.OfTrees.{deepest}
-use Rattle.c_tree.specs.Nesting.Trees.{expr_nesting, expr_nesting-Name, expr_nesting-Number, expr_nesting-Char, expr_nesting-Strings, expr_nesting-Paren}
-use Rattle.c_grammar.specs.Input.{Tokens, State, Parser, peek, is_bytes, is_mark, sees, one, expect, opening, many}
+use Rattle.c_tree.specs.Nesting.Trees.{expr_nesting-Name, expr_nesting-Number, expr_nesting-Char, expr_nesting-Strings, expr_nesting-Paren}
+use Rattle.c_grammar.specs.Input.{Tokens, State, peek, is_bytes, is_mark, sees, one, expect, opening, many}
 use Rattle.c_grammar.specs.Read.Nodes.{begins_cast}
 use Rattle.c_grammar.specs.Read.Inner.{Inner}
 use Rattle.c_grammar.specs.Read.Expressions.{atom_at, literal_at, paren, strings, primary as read_primary}
 use Rattle.c_grammar.specs.Ending.Trees.{expr_ending, expr_ending-Name, expr_ending-Number, expr_ending-Char, expr_ending-Strings, expr_ending-Paren}
-use Rattle.c_grammar.specs.Laws.Form.{Form, Exact, Node, Image, only, both, node_exact, same_exact, choose_exact, whole_exact, two, three}
-use Rattle.c_grammar.specs.Laws.Lists.{Items, Kept, item, all_good, all_added, all_stop, last_stop, chain, chain_exact, chain_stop, left, last_of, stop_goes, stop_made}
+use Rattle.c_grammar.specs.Laws.Form.{Form, Exact, Node, Image, only, node_exact, same_exact, choose_exact, whole_exact, two, three}
+use Rattle.c_grammar.specs.Laws.Lists.{Items, Kept, all_good, all_added, chain, chain_exact, stop_goes, stop_made}
 use Rattle.c_grammar.specs.Laws.Single.{single, one_exact, MadeOf, OneToken, pick_exact, sees_mark}
 use Rattle.c_grammar.specs.Laws.Rows.{deeper, bracketed, bracketed_exact}
 use Rattle.c_grammar.specs.Laws.Cases.{ExprShape, expr_shape}
@@ -48,37 +47,43 @@ name_made names text place a true e h = absurd cc
 name_made names text place a false e h =
     let id : Identifier = record { text = text; place = place } in
     let w : expr.Name id ≡ a = cc in
-    subst (λ a. IsAtom a × MadeOf (expr_form primary) names (k.Name text) place a) w
-    (inl (id, refl), record {
-      good = rw (expr_level-Name id, e) (omega arith);
-      spelt = expr_spelling-Name id;
-      seen = ap (λ f. (f names).1) (expr_level-Name id);
-      nested = expr_nesting-Name id;
-      stops = λ n rest. primary_stop (expr_ending (expr.Name id)) rest (ap (λ e. e.text) (expr_ending-Name id));
-    })
+    subst (λ a. IsAtom a × MadeOf (expr_form primary) names (k.Name text) place a) w (
+      inl (id, refl),
+      record {
+        good = rw (expr_level-Name id, e) (omega arith);
+        spelt = expr_spelling-Name id;
+        seen = ap (λ f. (f names).1) (expr_level-Name id);
+        nested = expr_nesting-Name id;
+        stops = λ n rest. primary_stop (expr_ending (expr.Name id)) rest (ap (λ e. e.text) (expr_ending-Name id));
+      },
+    )
 
 atom_made : (names : Names) (kind : TokenKind) (place : Pos) (a : Expr) → atom_at names kind place ≡ Some a → IsAtom a × MadeOf (expr_form primary) names kind place a
 atom_made names (k.Name text) place a h = name_made names text place a (is_typedef_name names text) refl h
 atom_made names (k.Number value kind) place a h =
     let w : expr.Number value kind place ≡ a = cc in
-    subst (λ a. IsAtom a × MadeOf (expr_form primary) names (k.Number value kind) place a) w
-    (inr (inl ((value, kind, place), refl)), record {
-      good = rw (expr_level-Number value kind place) (omega arith);
-      spelt = expr_spelling-Number value kind place;
-      seen = ap (λ f. (f names).1) (expr_level-Number value kind place);
-      nested = expr_nesting-Number value kind place;
-      stops = λ n rest. primary_stop (expr_ending (expr.Number value kind place)) rest (ap (λ e. e.text) (expr_ending-Number value kind place));
-    })
+    subst (λ a. IsAtom a × MadeOf (expr_form primary) names (k.Number value kind) place a) w (
+      inr (inl ((value, kind, place), refl)),
+      record {
+        good = rw (expr_level-Number value kind place) (omega arith);
+        spelt = expr_spelling-Number value kind place;
+        seen = ap (λ f. (f names).1) (expr_level-Number value kind place);
+        nested = expr_nesting-Number value kind place;
+        stops = λ n rest. primary_stop (expr_ending (expr.Number value kind place)) rest (ap (λ e. e.text) (expr_ending-Number value kind place));
+      },
+    )
 atom_made names (k.Char value) place a h =
     let w : expr.Char value place ≡ a = cc in
-    subst (λ a. IsAtom a × MadeOf (expr_form primary) names (k.Char value) place a) w
-    (inr (inr ((value, place), refl)), record {
-      good = rw (expr_level-Char value place) (omega arith);
-      spelt = expr_spelling-Char value place;
-      seen = ap (λ f. (f names).1) (expr_level-Char value place);
-      nested = expr_nesting-Char value place;
-      stops = λ n rest. primary_stop (expr_ending (expr.Char value place)) rest (ap (λ e. e.text) (expr_ending-Char value place));
-    })
+    subst (λ a. IsAtom a × MadeOf (expr_form primary) names (k.Char value) place a) w (
+      inr (inr ((value, place), refl)),
+      record {
+        good = rw (expr_level-Char value place) (omega arith);
+        spelt = expr_spelling-Char value place;
+        seen = ap (λ f. (f names).1) (expr_level-Char value place);
+        nested = expr_nesting-Char value place;
+        stops = λ n rest. primary_stop (expr_ending (expr.Char value place)) rest (ap (λ e. e.text) (expr_ending-Char value place));
+      },
+    )
 atom_made names (k.Keyword key) place a h = absurd cc
 atom_made names (k.Bytes bytes) place a h = absurd cc
 atom_made names (k.Punct op) place a h = absurd cc
@@ -138,9 +143,14 @@ goes_text i = is_bytes (peek i.1)
 
 abbrev literal_items : Items (Unit {0}) Literal
 literal_items = record {
-    spell = literal_form.spell; good = λ s. literal_form.good; adds = literal_form.adds; nest = literal_form.nest; stop = literal_form.stop;
-    goes = λ s. goes_text; step = λ s x. tt
-  }
+  spell = literal_form.spell;
+  good = λ s. literal_form.good;
+  adds = literal_form.adds;
+  nest = literal_form.nest;
+  stop = literal_form.stop;
+  goes = λ s. goes_text;
+  step = λ s x. tt;
+}
 
 sees_bytes : (names : Names) (a : Literal) (rest : Tokens) → goes_text (names, literal a ∷ rest) ≡ true
 unfolding peek
@@ -152,13 +162,13 @@ no_bytes names = refl
 
 literals_kept : (more : ℕ) → Kept literal_items more (λ s. one literal_at)
 literals_kept more = record {
-    sound = λ s names ts x end go h. (literal_exact more).sound names ts x end h;
-    complete = λ s names x rest g n st. (literal_exact more).complete names x rest g n st;
-    starts = λ s names x rest g st. sees_bytes names x rest;
-    ends = λ s names. no_bytes names;
-    follows = λ s names x y rest g h st. tt;
-    some = λ s names x g. omega arith;
-  }
+  sound = λ s names ts x end go h. (literal_exact more).sound names ts x end h;
+  complete = λ s names x rest g n st. (literal_exact more).complete names x rest g n st;
+  starts = λ s names x rest g st. sees_bytes names x rest;
+  ends = λ s names. no_bytes names;
+  follows = λ s names x y rest g h st. tt;
+  some = λ s names x g. omega arith;
+}
 
 literals_spelt : (ls : List Literal) → literals ls ≡ joined (map (λ l. literal l ∷ []) ls)
 literals_spelt [] = refl
@@ -210,21 +220,21 @@ text_stops (Some (k.Char value)) h = refl
 
 strings_node : Node strings_form strings_of (expr_form primary)
 strings_node = record {
-    good = λ names t g. rw (expr_level-Strings (t.0 ∷ t.1)) (omega arith);
-    parts = λ names t g. (tt, literals_good (names ++ []) t.1);
-    nested = λ t. expr_nesting-Strings (t.0 ∷ t.1) ∙ sym (let e = literals_flat t.1 in omega arith);
-    spelt = λ t. expr_spelling-Strings (t.0 ∷ t.1) ∙ ap (λ r. literal t.0 ∷ r) (literals_spelt t.1);
-    seen = λ names t. ap (λ f. (f names).1) (expr_level-Strings (t.0 ∷ t.1)) ∙ sym (literals_quiet (names ++ []) t.1);
-    stop = λ names t behind rest g h. rw (expr_ending-Strings (t.0 ∷ t.1)) (text_goes (peek rest) (literals_end t.0 t.1 behind rest h));
-    from_stop = λ names t behind rest g h. literals_stop t.0 t.1 behind rest (text_stops (peek rest) (rw (expr_ending-Strings (t.0 ∷ t.1)) at h));
-  }
+  good = λ names t g. rw (expr_level-Strings (t.0 ∷ t.1)) (omega arith);
+  parts = λ names t g. (tt, literals_good (names ++ []) t.1);
+  nested = λ t. expr_nesting-Strings (t.0 ∷ t.1) ∙ sym (let e = literals_flat t.1 in omega arith);
+  spelt = λ t. expr_spelling-Strings (t.0 ∷ t.1) ∙ ap (λ r. literal t.0 ∷ r) (literals_spelt t.1);
+  seen = λ names t. ap (λ f. (f names).1) (expr_level-Strings (t.0 ∷ t.1)) ∙ sym (literals_quiet (names ++ []) t.1);
+  stop = λ names t behind rest g h. rw (expr_ending-Strings (t.0 ∷ t.1)) (text_goes (peek rest) (literals_end t.0 t.1 behind rest h));
+  from_stop = λ names t behind rest g h. literals_stop t.0 t.1 behind rest (text_stops (peek rest) (rw (expr_ending-Strings (t.0 ∷ t.1)) at h));
+}
 
 strings_exact : (more : ℕ) (inner : Inner) → Exact (only (Image strings_of) (expr_form primary)) more (strings more inner)
 unfolding strings
 strings_exact more inner =
     same_exact (only (Image strings_of) (expr_form primary)) more _ (strings more inner) (two (one literal_at) (λ first. many goes_text (one literal_at)) (λ first rest. expr.Strings (first ∷ rest)))
     (node_exact strings_form strings_of (expr_form primary) more _
-      (chain_exact literal_form literal_items (λ a. tt) more (one literal_at) (λ s. one literal_at) (literal_exact more) (literals_kept more) (λ names a x rest g h st. tt)) strings_node)
+    (chain_exact literal_form literal_items (λ a. tt) more (one literal_at) (λ s. one literal_at) (literal_exact more) (literals_kept more) (λ names a x rest g h st. tt)) strings_node)
 
 -- ---- in brackets
 
@@ -236,21 +246,21 @@ paren_form = bracketed p.LeftParen (deeper (expr_form comma)) p.RightParen
 
 paren_node : Node paren_form paren_of (expr_form primary)
 paren_node = record {
-    good = λ names t g. rw (expr_level-Paren t.0.0 t.0.1 t.1) (where_is _ primary primary (nat_le-is (expr_level t.0.1 names).0 comma g.0.1) (omega arith));
-    parts = λ names t g. ((tt, nat_le-true (expr_level t.0.1 names).0 comma (good_of _ primary primary (rw (expr_level-Paren t.0.0 t.0.1 t.1) at g) (omega arith)).0), tt);
-    nested = λ t. expr_nesting-Paren t.0.0 t.0.1 t.1 ∙ omega arith;
-    spelt = λ t. expr_spelling-Paren t.0.0 t.0.1 t.1;
-    seen = λ names t. ap (λ f. (f names).1) (expr_level-Paren t.0.0 t.0.1 t.1);
-    stop = λ names t behind rest g h. primary_stop (expr_ending (paren_of t)) rest (ap (λ e. e.text) (expr_ending-Paren t.0.0 t.0.1 t.1));
-    from_stop = λ names t behind rest g h. tt;
-  }
+  good = λ names t g. rw (expr_level-Paren t.0.0 t.0.1 t.1) (where_is _ primary primary (nat_le-is (expr_level t.0.1 names).0 comma g.0.1) (omega arith));
+  parts = λ names t g. ((tt, nat_le-true (expr_level t.0.1 names).0 comma (good_of _ primary primary (rw (expr_level-Paren t.0.0 t.0.1 t.1) at g) (omega arith)).0), tt);
+  nested = λ t. expr_nesting-Paren t.0.0 t.0.1 t.1 ∙ omega arith;
+  spelt = λ t. expr_spelling-Paren t.0.0 t.0.1 t.1;
+  seen = λ names t. ap (λ f. (f names).1) (expr_level-Paren t.0.0 t.0.1 t.1);
+  stop = λ names t behind rest g h. primary_stop (expr_ending (paren_of t)) rest (ap (λ e. e.text) (expr_ending-Paren t.0.0 t.0.1 t.1));
+  from_stop = λ names t behind rest g h. tt;
+}
 
 paren_exact : (more : ℕ) (inner : Inner) → Exact (deeper (expr_form comma)) more (inner.expr comma) → Exact (only (Image paren_of) (expr_form primary)) more (paren more inner)
 unfolding paren
 paren_exact more inner exact =
     same_exact (only (Image paren_of) (expr_form primary)) more _ (paren more inner) (three (opening more p.LeftParen) (λ from. inner.expr comma) (λ from x. expect p.RightParen) (λ from x to. expr.Paren from x to))
     (node_exact paren_form paren_of (expr_form primary) more _
-      (bracketed_exact p.LeftParen (deeper (expr_form comma)) p.RightParen more (inner.expr comma) exact (λ names x at rest g. before_mark comma (expr_ending x) p.RightParen at rest (omega arith))) paren_node)
+    (bracketed_exact p.LeftParen (deeper (expr_form comma)) p.RightParen more (inner.expr comma) exact (λ names x at rest g. before_mark comma (expr_ending x) p.RightParen at rest (omega arith))) paren_node)
 
 -- ---- a primary expression is one of these
 
@@ -326,8 +336,8 @@ unfolding read_primary
 primary_exact more inner exact =
     whole_exact IsPrimary (expr_form primary) more _ (λ names x g. primary_is (expr_shape x) names g)
     (choose_exact IsParen (λ x. IsStrings x ⊎ IsAtom x) (expr_form primary) more (sees p.LeftParen) (paren more inner) _ (paren_exact more inner exact)
-      (choose_exact IsStrings IsAtom (expr_form primary) more goes_text (strings more inner) (one atom_at) (strings_exact more inner) (atom_exact more)
-        (λ names x rest i g s. is_strings_seen names x rest i)
-        (λ names x rest i g s. atom_kind names x rest is_bytes i (λ text. refl) (λ value kind. refl) (λ value. refl)))
-      (λ names x rest i g s. paren_seen names x rest i)
-      (λ names x rest i g s. unopened names x rest i))
+    (choose_exact IsStrings IsAtom (expr_form primary) more goes_text (strings more inner) (one atom_at) (strings_exact more inner) (atom_exact more)
+    (λ names x rest i g s. is_strings_seen names x rest i)
+    (λ names x rest i g s. atom_kind names x rest is_bytes i (λ text. refl) (λ value kind. refl) (λ value. refl)))
+    (λ names x rest i g s. paren_seen names x rest i)
+    (λ names x rest i g s. unopened names x rest i))

@@ -1,25 +1,23 @@
 -- The laws of the five productions.
-use Rattle.std.specs.Prelude.{◌≡◌, ℕ, ◌+◌, ◌≤◌, ◌<◌, Bool, true, false, not, ◌&&◌, ◌||◌, nat_le, IsTrue, List, [], ◌∷◌, ◌++◌, map, Option, Some, refl}
-use Rattle.std.proofs.Common.{ap, sym, ◌∙◌, subst, arith, ◌⊎◌, inl, inr}
+use Rattle.std.specs.Prelude.{◌≡◌, ℕ, ◌≤◌, ◌<◌, Bool, true, false, nat_le, List, ◌∷◌, Some, refl}
+use Rattle.std.proofs.Common.{sym, ◌∙◌, subst, arith, ◌⊎◌, inl, inr}
 use Rattle.c_tree.specs.declared.token.Token.{Token}
 use Rattle.c_tree.specs.declared.expression.Expr.{Expr}
 use Rattle.c_tree.specs.declared.specifier.Specifier.{Specifier}
-use Rattle.c_tree.specs.declared.declarator.Declarator.{Declarator}
-use Rattle.c_tree.specs.Levels.Names.{Names, in_row}
+use Rattle.c_tree.specs.Levels.Names.{Names}
 use Rattle.c_tree.specs.Levels.Productions.{conditional, assignment, comma, none}
-use Rattle.c_tree.specs.Levels.Facts.{Use, facts_of_specifiers, has_storage}
-use Rattle.c_tree.specs.Levels.Trees.{expr_level, specifier_level}
+use Rattle.c_tree.specs.Levels.Facts.{Use}
+use Rattle.c_tree.specs.Levels.Trees.{expr_level}
 use Rattle.c_grammar.specs.Input.{Tokens, peek}
 use Rattle.c_grammar.specs.Read.Depth.{expression, specifiers, declarator}
 use Rattle.c_grammar.specs.Ending.Trees.{expr_ending}
-use Rattle.c_grammar.specs.Fronts.{Trees, IsFront, OkAtFront, SpellingIsUnique, FrontIsUnique}
+use Rattle.c_grammar.specs.Fronts.{OkAtFront, SpellingIsUnique, FrontIsUnique}
 use Rattle.c_grammar.specs.Productions.{expressions, specifier_lists, declarators}
-use Rattle.c_grammar.specs.Laws.Form.{Form, Exact}
 use Rattle.c_grammar.specs.Laws.Behind.{goes_on, expr_form, nat_le-true, nat_le-false, before_end}
 use Rattle.c_grammar.specs.Laws.Starts.{peek_first}
 use Rattle.c_grammar.specs.Laws.Forms.{specifiers_form, declarator_form}
 use Rattle.c_grammar.specs.Laws.TypeNames.{form_told, form_is}
-use Rattle.c_grammar.specs.Laws.Front.{Longer, Stops, trees_of, front_unique, unique, ok_at_front, ok_to, unique_to}
+use Rattle.c_grammar.specs.Laws.Front.{Longer, Stops, front_unique, unique, ok_at_front, ok_to, unique_to}
 use Rattle.c_grammar.specs.Laws.GrowExpressions.{Grows, grows_conditional, grows_assignment, grows_comma}
 use Rattle.c_grammar.specs.Laws.GrowSpecifiers.{specifiers_stop}
 use Rattle.c_grammar.specs.Laws.GrowDeclarators.{declarator_stops}
@@ -35,10 +33,10 @@ module _ (within : ℕ) (low : within < none) (tight : Grows within) where
 
   expression_stops : Stops (expr_form within)
   expression_stops = record {
-      next = λ names x behind t a b g h. subst (λ o. within < goes_on (expr_ending x) o) (peek_first t a ∙ sym (peek_first t b)) h;
-      end = λ names x behind g. before_end within (expr_ending x) low;
-      grows = λ names x t rest g. by_test names x t rest (nat_le (goes_on (expr_ending x) (Some t.kind)) within) g refl;
-    }
+    next = λ names x behind t a b g h. subst (λ o. within < goes_on (expr_ending x) o) (peek_first t a ∙ sym (peek_first t b)) h;
+    end = λ names x behind g. before_end within (expr_ending x) low;
+    grows = λ names x t rest g. by_test names x t rest (nat_le (goes_on (expr_ending x) (Some t.kind)) within) g refl;
+  }
 
 -- ---- Ok comes exactly at the longest front
 

@@ -1,12 +1,12 @@
 -- What stands in a row where a part declares nothing, and what stands in brackets.
-use Rattle.std.specs.Prelude.{◌≡◌, ℕ, ◌+◌, ◌≤◌, max, Bool, true, false, List, [], ◌∷◌, ◌++◌, Ok, refl}
-use Rattle.std.proofs.Common.{ap, sym, ◌∙◌, subst, cond, arith, append_assoc, append-nil}
+use Rattle.std.specs.Prelude.{◌≡◌, ℕ, ◌+◌, max, [], ◌∷◌, ◌++◌, Ok, refl}
+use Rattle.std.proofs.Common.{ap, sym, ◌∙◌, subst, append-nil}
 use Rattle.c_tree.specs.declared.token.Pos.{Pos}
 use Rattle.c_tree.specs.declared.token.Punct.{Punct}
 use Rattle.c_tree.specs.Spelling.Tokens.{punct}
 use Rattle.c_tree.specs.Levels.Names.{Names}
-use Rattle.c_grammar.specs.Input.{Tokens, State, Parser, and_then, ◌>>=◌, pure, expect, opening}
-use Rattle.c_grammar.specs.Laws.Form.{Form, Got, Exact, both, seq, seq_exact}
+use Rattle.c_grammar.specs.Input.{Tokens, Parser, expect, opening}
+use Rattle.c_grammar.specs.Laws.Form.{Form, Exact, both, seq, seq_exact}
 use Rattle.c_grammar.specs.Laws.Single.{opening_form, opening_exact, mark_form, expect_exact}
 
 abbrev pub Quiet : {A : Type 0} → Form A → Type 0
@@ -16,12 +16,12 @@ Quiet {A} F = (names : Names) (a : A) → F.adds names a ≡ []
 
 abbrev pub pre : {A B : Type 0} → Form A → (A → Form B) → Form (A × B)
 pre F G = record {
-    spell = λ t. F.spell t.0 ++ (G t.0).spell t.1;
-    good = λ names t. F.good names t.0 × (G t.0).good names t.1;
-    adds = λ names t. (G t.0).adds names t.1;
-    nest = λ t. max (F.nest t.0) ((G t.0).nest t.1);
-    stop = λ t names rest. (G t.0).stop t.1 names rest;
-  }
+  spell = λ t. F.spell t.0 ++ (G t.0).spell t.1;
+  good = λ names t. F.good names t.0 × (G t.0).good names t.1;
+  adds = λ names t. (G t.0).adds names t.1;
+  nest = λ t. max (F.nest t.0) ((G t.0).nest t.1);
+  stop = λ t names rest. (G t.0).stop t.1 names rest;
+}
 
 module _ {A B : Type 0} (F : Form A) (G : A → Form B) (more : ℕ) (p : Parser A) (q : A → Parser B) (quiet : Quiet F) (first : Exact F more p) (second : (a : A) → Exact (G a) more (q a))
     (follow : (names : Names) (a : A) (b : B) (rest : Tokens) → F.good names a → (G a).good names b → (G a).stop b (names ++ (G a).adds names b) rest → F.stop a names ((G a).spell b ++ rest)) where
@@ -38,31 +38,31 @@ module _ {A B : Type 0} (F : Form A) (G : A → Form B) (more : ℕ) (p : Parser
 
   pub pre_exact : Exact (pre F G) more (both p q)
   pre_exact = record {
-      sound = λ names ts t s h.
-          let g = whole.sound names ts t s h in
-          record {
-            good = (g.good.0, subst (λ n. (G t.0).good n t.1) (same_names names t.0) g.good.1);
-            nested = g.nested;
-            spelt = g.spelt;
-            seen = g.seen ∙ ap (λ l. names ++ l) (pre_adds names t);
-            stops = g.stops;
-          };
-      complete = λ names t rest g n s.
-          subst (λ l. both p q (names, (pre F G).spell t ++ rest) ≡ Ok (t, (names ++ l, rest))) (pre_adds names t)
-          (whole.complete names t rest (g.0, subst (λ n. (G t.0).good n t.1) (sym (same_names names t.0)) g.1) n
-            (subst (λ l. (G t.0).stop t.1 (names ++ l) rest) (sym (pre_adds names t)) s));
-    }
+    sound = λ names ts t s h.
+        let g = whole.sound names ts t s h in
+        record {
+          good = (g.good.0, subst (λ n. (G t.0).good n t.1) (same_names names t.0) g.good.1);
+          nested = g.nested;
+          spelt = g.spelt;
+          seen = g.seen ∙ ap (λ l. names ++ l) (pre_adds names t);
+          stops = g.stops;
+        };
+    complete = λ names t rest g n s.
+        subst (λ l. both p q (names, (pre F G).spell t ++ rest) ≡ Ok (t, (names ++ l, rest))) (pre_adds names t)
+        (whole.complete names t rest (g.0, subst (λ n. (G t.0).good n t.1) (sym (same_names names t.0)) g.1) n
+        (subst (λ l. (G t.0).stop t.1 (names ++ l) rest) (sym (pre_adds names t)) s));
+  }
 
 -- ---- the second declares nothing
 
 abbrev pub post : {A B : Type 0} → Form A → (A → Form B) → Form (A × B)
 post F G = record {
-    spell = λ t. F.spell t.0 ++ (G t.0).spell t.1;
-    good = λ names t. F.good names t.0 × (G t.0).good (names ++ F.adds names t.0) t.1;
-    adds = λ names t. F.adds names t.0;
-    nest = λ t. max (F.nest t.0) ((G t.0).nest t.1);
-    stop = λ t names rest. (G t.0).stop t.1 names rest;
-  }
+  spell = λ t. F.spell t.0 ++ (G t.0).spell t.1;
+  good = λ names t. F.good names t.0 × (G t.0).good (names ++ F.adds names t.0) t.1;
+  adds = λ names t. F.adds names t.0;
+  nest = λ t. max (F.nest t.0) ((G t.0).nest t.1);
+  stop = λ t names rest. (G t.0).stop t.1 names rest;
+}
 
 module _ {A B : Type 0} (F : Form A) (G : A → Form B) (more : ℕ) (p : Parser A) (q : A → Parser B) (quiet : (a : A) → Quiet (G a)) (first : Exact F more p) (second : (a : A) → Exact (G a) more (q a))
     (follow : (names : Names) (a : A) (b : B) (rest : Tokens) → F.good names a → (G a).good (names ++ F.adds names a) b → (G a).stop b (names ++ F.adds names a) rest → F.stop a (names ++ F.adds names a) ((G a).spell b ++ rest)) where
@@ -77,13 +77,13 @@ module _ {A B : Type 0} (F : Form A) (G : A → Form B) (more : ℕ) (p : Parser
 
   pub post_exact : Exact (post F G) more (both p q)
   post_exact = record {
-      sound = λ names ts t s h.
-          let g = all_of.sound names ts t s h in
-          record { good = g.good; nested = g.nested; spelt = g.spelt; seen = g.seen ∙ ap (λ l. names ++ l) (post_adds names t); stops = g.stops };
-      complete = λ names t rest g n s.
-          subst (λ l. both p q (names, (post F G).spell t ++ rest) ≡ Ok (t, (names ++ l, rest))) (post_adds names t)
-          (all_of.complete names t rest g n (subst (λ l. (G t.0).stop t.1 (names ++ l) rest) (sym (post_adds names t)) s));
-    }
+    sound = λ names ts t s h.
+        let g = all_of.sound names ts t s h in
+        record { good = g.good; nested = g.nested; spelt = g.spelt; seen = g.seen ∙ ap (λ l. names ++ l) (post_adds names t); stops = g.stops };
+    complete = λ names t rest g n s.
+        subst (λ l. both p q (names, (post F G).spell t ++ rest) ≡ Ok (t, (names ++ l, rest))) (post_adds names t)
+        (all_of.complete names t rest g n (subst (λ l. (G t.0).stop t.1 (names ++ l) rest) (sym (post_adds names t)) s));
+  }
 
 -- ---- in brackets
 

@@ -1,6 +1,6 @@
 -- One token is read exactly where it is picked.
-use Rattle.std.specs.Prelude.{◌≡◌, ℕ, zero, suc, ◌+◌, ◌≤◌, ◌<◌, max, Bool, true, false, ◌&&◌, ◌==◌, List, [], ◌∷◌, ◌++◌, Option, Some, None, Ok, Err, refl}
-use Rattle.std.proofs.Common.{ap, sym, ◌∙◌, subst, cond, arith, append_assoc, append-nil}
+use Rattle.std.specs.Prelude.{◌≡◌, ℕ, zero, suc, ◌≤◌, ◌<◌, Bool, true, false, ◌&&◌, ◌==◌, [], ◌∷◌, ◌++◌, Option, Some, None, Ok, refl}
+use Rattle.std.proofs.Common.{ap, sym, ◌∙◌, subst, cond, arith, append-nil}
 use Rattle.std.proofs.lemmas.Bool.Decides.{nat_tests}
 use Rattle.c_tree.specs.declared.token.Pos.{Pos}
 use Rattle.c_tree.specs.declared.token.Punct.{Punct}
@@ -11,7 +11,7 @@ use Rattle.c_tree.specs.declared.expression.Identifier.{Identifier}
 use Rattle.c_tree.specs.Spelling.Tokens.{token, punct, name as name_token}
 use Rattle.c_tree.specs.Levels.Names.{Names}
 use Rattle.c_grammar.specs.Punctuators.{same_mark, same_mark-true, same_mark-itself}
-use Rattle.c_grammar.specs.Input.{Tokens, State, Outcome, Parser, peek, is_mark, is_name, sees, too_deep, choose, took, one_of, one, mark_at, identifier_at, expect, identifier, opening}
+use Rattle.c_grammar.specs.Input.{Tokens, State, Outcome, peek, sees, too_deep, took, one, mark_at, identifier_at, expect, identifier, opening}
 use Rattle.c_grammar.specs.Laws.Form.{Form, Got, Exact, only, ok_pair}
 
 -- one token, which declares nothing and with which nothing goes on
@@ -32,7 +32,12 @@ module _ {A : Type 0} (sp : A → Token) (good : Names → A → Type 0) (pick :
       let w = ok_pair {A = A} a x (names, ts) s h in
       let g = picks names t.kind t.place a e in
       let whole : Got (single sp good) more names (t ∷ ts) a (names, ts) = record {
-            good = g.1; nested = omega arith; spelt = ap (λ (u : Token). u ∷ ts) (sym g.0); seen = sym (append-nil names); stops = tt } in
+        good = g.1;
+        nested = omega arith;
+        spelt = ap (λ (u : Token). u ∷ ts) (sym g.0);
+        seen = sym (append-nil names);
+        stops = tt;
+      } in
       subst (λ (s : State). Got (single sp good) more names (t ∷ ts) x s) w.1 (subst (λ (x : A). Got (single sp good) more names (t ∷ ts) x (names, ts)) w.0 whole)
 
   one_sound : (names : Names) (ts : Tokens) (x : A) (s : State) → one pick (names, ts) ≡ Ok (x, s) → Got (single sp good) more names ts x s
@@ -78,12 +83,12 @@ module _ {A : Type 0} (H : Form A) (w : A → Type 0) (pick : Names → TokenKin
       let g = m.1 in
       let n = g.nested in
       let whole : Got (only w H) more names (t ∷ ts) a (names, ts) = record {
-            good = (m.0, g.good);
-            nested = omega arith;
-            spelt = ap (λ l. l ++ ts) (sym g.spelt);
-            seen = sym (append-nil names) ∙ ap (λ l. names ++ l) (sym g.seen);
-            stops = g.stops names ts;
-          } in
+        good = (m.0, g.good);
+        nested = omega arith;
+        spelt = ap (λ l. l ++ ts) (sym g.spelt);
+        seen = sym (append-nil names) ∙ ap (λ l. names ++ l) (sym g.seen);
+        stops = g.stops names ts;
+      } in
       subst (λ (s : State). Got (only w H) more names (t ∷ ts) x s) q.1 (subst (λ (x : A). Got (only w H) more names (t ∷ ts) x (names, ts)) q.0 whole)
 
   pick_sound : (names : Names) (ts : Tokens) (x : A) (s : State) → one pick (names, ts) ≡ Ok (x, s) → Got (only w H) more names ts x s

@@ -1,28 +1,21 @@
 -- The first token of a specifier, and of a type name.
-use Rattle.std.specs.Prelude.{◌≡◌, ℕ, Bool, true, false, not, ◌&&◌, ◌||◌, List, [], ◌∷◌, ◌++◌, map, Option, Some, None, is_some, refl}
-use Rattle.std.proofs.Common.{ap, sym, ◌∙◌, subst, cond, append_assoc}
-use Rattle.c_tree.specs.declared.token.Pos.{Pos}
-use Rattle.c_tree.specs.declared.token.Keyword.{Keyword}
+use Rattle.std.specs.Prelude.{◌≡◌, Bool, true, false, not, ◌&&◌, ◌||◌, List, [], ◌∷◌, ◌++◌, map, Some, refl}
+use Rattle.std.proofs.Common.{ap, sym, ◌∙◌}
 use Rattle.c_tree.specs.declared.token.Keyword.TheVariants as word
-use Rattle.c_tree.specs.declared.token.TokenKind.{TokenKind}
-use Rattle.c_tree.specs.declared.token.TokenKind.TheVariants as k
 use Rattle.c_tree.specs.declared.token.Token.{Token}
-use Rattle.c_tree.specs.declared.expression.Identifier.{Identifier}
-use Rattle.c_tree.specs.declared.expression.TypeName.{TypeName, out-TypeName}
 use Rattle.c_tree.specs.declared.specifier.Specifier.{Specifier}
 use Rattle.c_tree.specs.declared.specifier.Storage.{Storage}
 use Rattle.c_tree.specs.declared.specifier.Storage.TheVariants as storage
 use Rattle.c_tree.specs.declared.specifier.TypeWord.{TypeWord}
 use Rattle.c_tree.specs.declared.specifier.TypeWord.TheVariants as type
 use Rattle.c_tree.specs.Spelling.Tokens.{keyword, joined, storage_word, type_word}
-use Rattle.c_tree.specs.Spelling.Trees.{specifier_spelling, type_name_spelling, declarator_spelling, type_name_spelling-is, specifier_spelling-Storage, specifier_spelling-Const, specifier_spelling-Word, specifier_spelling-StructTag, specifier_spelling-Struct, specifier_spelling-EnumTag, specifier_spelling-Enum, specifier_spelling-TypedefName}
-use Rattle.c_tree.specs.Levels.Names.{Names, is_typedef_name, in_row}
-use Rattle.c_tree.specs.Levels.Facts.{SpecifierKind, Storing, Qualifying, Voiding, Typing, Naming}
-use Rattle.c_tree.specs.Levels.Trees.{specifier_level, type_name_level, specifier_level-Storage, specifier_level-Const, specifier_level-Word, specifier_level-StructTag, specifier_level-Struct, specifier_level-EnumTag, specifier_level-Enum, specifier_level-TypedefName}
-use Rattle.c_grammar.specs.Input.{Tokens, State, peek}
-use Rattle.c_grammar.specs.Read.Inner.{storage_of, type_of, word_begins, begins_specifier, begins_type}
+use Rattle.c_tree.specs.Spelling.Trees.{specifier_spelling, specifier_spelling-Storage, specifier_spelling-Const, specifier_spelling-Word, specifier_spelling-StructTag, specifier_spelling-Struct, specifier_spelling-EnumTag, specifier_spelling-Enum, specifier_spelling-TypedefName}
+use Rattle.c_tree.specs.Levels.Names.{Names, is_typedef_name}
+use Rattle.c_tree.specs.Levels.Trees.{specifier_level-Storage, specifier_level-TypedefName}
+use Rattle.c_grammar.specs.Input.{Tokens, peek}
+use Rattle.c_grammar.specs.Read.Inner.{word_begins, begins_specifier}
 use Rattle.c_grammar.specs.Laws.Cases.{SpecifierShape, specifier_shape}
-use Rattle.c_grammar.specs.Laws.Behind.{both_true, both_are}
+use Rattle.c_grammar.specs.Laws.Behind.{both_are}
 use Rattle.c_grammar.specs.Laws.Starts.{peek_first}
 use Rattle.c_grammar.specs.Laws.Forms.{kind_good, is_storing, specifier_items, specifiers_form}
 

@@ -1,9 +1,8 @@
 -- Specifiers are read exactly (C11 6.7.1 to 6.7.3).
-use Rattle.std.specs.Prelude.{◌≡◌, ℕ, ◌+◌, ◌≤◌, ◌<◌, max, Bool, true, false, not, ◌&&◌, ◌||◌, if◌then◌else◌, List, [], ◌∷◌, ◌++◌, length, map, Option, Some, None, is_some, Ok, refl}
+use Rattle.std.specs.Prelude.{◌≡◌, ℕ, ◌<◌, Bool, true, false, not, ◌&&◌, ◌||◌, if◌then◌else◌, List, [], ◌∷◌, ◌++◌, length, map, Option, Some, None, is_some, refl}
 use Rattle.std.proofs.Common.{ap, sym, ◌∙◌, subst, cond, arith, append_assoc, append-nil, ◌⊎◌, inl, inr}
 use denote.Hole.Carrier.{out}
 use Rattle.c_tree.specs.declared.token.Pos.{Pos}
-use Rattle.c_tree.specs.declared.token.Punct.{Punct}
 use Rattle.c_tree.specs.declared.token.Punct.TheVariants as p
 use Rattle.c_tree.specs.declared.token.Keyword.{Keyword}
 use Rattle.c_tree.specs.declared.token.Keyword.TheVariants as word
@@ -19,31 +18,30 @@ use Rattle.c_tree.specs.declared.specifier.TypeWord.{TypeWord}
 use Rattle.c_tree.specs.declared.specifier.TypeWord.TheVariants as type
 use Rattle.c_tree.specs.declared.specifier.Member.{Member}
 use Rattle.c_tree.specs.declared.specifier.Enumerator.{Enumerator, out-Enumerator}
-use Rattle.c_tree.specs.Spelling.Tokens.{token, punct, keyword, name as name_token, name_at, comma_at, joined, storage_word, type_word}
-use Rattle.c_tree.specs.Spelling.Trees.{specifier_spelling, member_spelling, enumerator_spelling, specifier_spelling-Storage, specifier_spelling-Const, specifier_spelling-Word, specifier_spelling-StructTag, specifier_spelling-Struct, specifier_spelling-EnumTag, specifier_spelling-Enum, specifier_spelling-TypedefName}
+use Rattle.c_tree.specs.Spelling.Tokens.{token, punct, keyword, name as name_token, comma_at, joined, storage_word, type_word}
+use Rattle.c_tree.specs.Spelling.Trees.{specifier_spelling, enumerator_spelling, specifier_spelling-Storage, specifier_spelling-Const, specifier_spelling-Word, specifier_spelling-StructTag, specifier_spelling-Struct, specifier_spelling-EnumTag, specifier_spelling-Enum, specifier_spelling-TypedefName}
 use Rattle.c_tree.specs.Levels.Names.{Names, is_typedef_name, in_row}
-use Rattle.c_tree.specs.Levels.Facts.{Use, filled, all_good as all_true, SpecifierKind, Storing, Qualifying, Voiding, Typing, Naming, ListedFacts, listed, rest_listed}
+use Rattle.c_tree.specs.Levels.Facts.{Use, all_good as all_true, rest_listed}
 use Rattle.c_tree.specs.Levels.OfTrees.{kind_of_word}
-use Rattle.c_tree.specs.Levels.Trees.{specifier_level, member_level, enumerator_level, specifier_level-Storage, specifier_level-Const, specifier_level-Word, specifier_level-StructTag, specifier_level-Struct, specifier_level-EnumTag, specifier_level-Enum, specifier_level-TypedefName, enumerator_level-Plain, enumerator_level-Valued}
+use Rattle.c_tree.specs.Levels.Trees.{specifier_level, member_level, enumerator_level, specifier_level-Storage, specifier_level-Const, specifier_level-Word, specifier_level-StructTag, specifier_level-Struct, specifier_level-EnumTag, specifier_level-Enum, specifier_level-TypedefName}
 use Rattle.c_tree.specs.Levels.Productions.{conditional}
-use Rattle.c_tree.specs.Nesting.OfTrees.{deepest}
-use Rattle.c_tree.specs.Nesting.Trees.{specifier_nesting, member_nesting, enumerator_nesting, specifier_nesting-Storage, specifier_nesting-Const, specifier_nesting-Word, specifier_nesting-StructTag, specifier_nesting-Struct, specifier_nesting-EnumTag, specifier_nesting-Enum, specifier_nesting-TypedefName}
+use Rattle.c_tree.specs.Nesting.Trees.{specifier_nesting, member_nesting, specifier_nesting-Storage, specifier_nesting-Const, specifier_nesting-Word, specifier_nesting-StructTag, specifier_nesting-Struct, specifier_nesting-EnumTag, specifier_nesting-Enum, specifier_nesting-TypedefName}
 use Rattle.c_grammar.specs.Input.{Tokens, State, Parser, ◌>>=◌, pure, choose, peek, is_mark, is_name, sees, one, expect, identifier, opening, many, many_by}
 use Rattle.c_grammar.specs.Read.Nodes.{is_type}
 use Rattle.c_grammar.specs.Read.Inner.{Inner, is_struct, is_enum, begins_specifier}
 use Rattle.c_grammar.specs.Read.Specifiers.{struct_at, enum_at, plain_at, goes_enumerator, optional_comma, member, goes_member, struct_body, struct_tagged, struct_specifier, one_enumerator, next_enumerator, enum_body, enum_tagged, enum_specifier, one_specifier, goes_specifier, types, specifiers}
 use Rattle.c_grammar.specs.Laws.Form.{Form, Exact, Node, Image, Joint, Split, only, both, map_to, node_exact, joint_exact, same_exact, choose_exact, whole_exact, two, four, five_pair, bind_same, choose_same, choose_map, either, either_exact, either_guarded, without, without_guarded}
-use Rattle.c_grammar.specs.Laws.Lists.{Items, Kept, item, all_good, all_added, all_stop, last_stop, list, chain, chain_exact, chain_stop, added_in_row}
-use Rattle.c_grammar.specs.Laws.Single.{single, one_exact, always, MadeOf, OneToken, pick_exact, mark_form, name_form, identifier_exact, sees_mark}
+use Rattle.c_grammar.specs.Laws.Lists.{Kept, item, all_good, all_stop, chain, chain_exact, added_in_row}
+use Rattle.c_grammar.specs.Laws.Single.{single, one_exact, always, MadeOf, OneToken, pick_exact, name_form, identifier_exact, sees_mark}
 use Rattle.c_grammar.specs.Laws.Rows.{pre, pre_exact, deeper}
-use Rattle.c_grammar.specs.Laws.Cases.{SpecifierShape, specifier_shape, EnumeratorShape, enumerator_shape}
+use Rattle.c_grammar.specs.Laws.Cases.{SpecifierShape, specifier_shape}
 use Rattle.c_grammar.specs.Laws.Behind.{expr_form, both_true, both_are, peek_mark}
 use Rattle.c_grammar.specs.Laws.Starts.{peek_first}
 use Rattle.c_grammar.specs.Laws.Postfix.{deep_list}
 use Rattle.c_grammar.specs.Laws.Forms.{kind_good, is_storing, is_tag, specifier_items, specifiers_form, declarator_form}
-use Rattle.c_grammar.specs.Laws.SpecifierStarts.{StartsSpecifier, specifier_starts, starts_seen}
-use Rattle.c_grammar.specs.Laws.Enumerators.{layer_comma, comma_told, first_enumerator, next_form, enumerator_items, enum_body_form, enum_body_exact, layer_nest, enumerator_deep}
-use Rattle.c_grammar.specs.Laws.Members.{member_form, member_items, struct_body_form, struct_body_exact}
+use Rattle.c_grammar.specs.Laws.SpecifierStarts.{specifier_starts, starts_seen}
+use Rattle.c_grammar.specs.Laws.Enumerators.{layer_comma, comma_told, enumerator_items, enum_body_form, enum_body_exact, layer_nest, enumerator_deep}
+use Rattle.c_grammar.specs.Laws.Members.{member_items, struct_body_form, struct_body_exact}
 
 abbrev pub one_form : Bool → Bool → Form Specifier
 one_form w typed = item (specifier_items w) typed
@@ -84,47 +82,55 @@ word_storing _ = refl
 module _ (w typed : Bool) (names : Names) where
   made_storage : (st : Storage) (place : Pos) (a : Specifier) → w ≡ true → specifier.Storage st place ≡ a → IsPlain a × MadeOf (one_form w typed) names (k.Keyword (storage_word st)) place a
   made_storage st place a e q =
-      subst (λ a. IsPlain a × MadeOf (one_form w typed) names (k.Keyword (storage_word st)) place a) q
-      (inl ((st, place), refl), record {
-        good = (ap (λ f. kind_good typed (f names).0) (specifier_level-Storage st place), ap (λ b. b || not (is_storing (specifier_level (specifier.Storage st place) names).0)) e);
-        spelt = specifier_spelling-Storage st place;
-        seen = ap (λ f. (f names).1) (specifier_level-Storage st place);
-        nested = specifier_nesting-Storage st place;
-        stops = λ n rest. storage_no_tag st place _;
-      })
+      subst (λ a. IsPlain a × MadeOf (one_form w typed) names (k.Keyword (storage_word st)) place a) q (
+        inl ((st, place), refl),
+        record {
+          good = (ap (λ f. kind_good typed (f names).0) (specifier_level-Storage st place), ap (λ b. b || not (is_storing (specifier_level (specifier.Storage st place) names).0)) e);
+          spelt = specifier_spelling-Storage st place;
+          seen = ap (λ f. (f names).1) (specifier_level-Storage st place);
+          nested = specifier_nesting-Storage st place;
+          stops = λ n rest. storage_no_tag st place _;
+        },
+      )
 
   made_const : (place : Pos) (a : Specifier) → specifier.Const place ≡ a → IsPlain a × MadeOf (one_form w typed) names (k.Keyword word.Const) place a
   made_const place a q =
-      subst (λ a. IsPlain a × MadeOf (one_form w typed) names (k.Keyword word.Const) place a) q
-      (inr (inl (place, refl)), record {
-        good = (ap (λ f. kind_good typed (f names).0) (specifier_level-Const place), ap (λ f. w || not (is_storing (f names).0)) (specifier_level-Const place) ∙ or_true w);
-        spelt = specifier_spelling-Const place;
-        seen = ap (λ f. (f names).1) (specifier_level-Const place);
-        nested = specifier_nesting-Const place;
-        stops = λ n rest. const_no_tag place _;
-      })
+      subst (λ a. IsPlain a × MadeOf (one_form w typed) names (k.Keyword word.Const) place a) q (
+        inr (inl (place, refl)),
+        record {
+          good = (ap (λ f. kind_good typed (f names).0) (specifier_level-Const place), ap (λ f. w || not (is_storing (f names).0)) (specifier_level-Const place) ∙ or_true w);
+          spelt = specifier_spelling-Const place;
+          seen = ap (λ f. (f names).1) (specifier_level-Const place);
+          nested = specifier_nesting-Const place;
+          stops = λ n rest. const_no_tag place _;
+        },
+      )
 
   made_word : (t : TypeWord) (place : Pos) (a : Specifier) → specifier.Word t place ≡ a → IsPlain a × MadeOf (one_form w typed) names (k.Keyword (type_word t)) place a
   made_word t place a q =
-      subst (λ a. IsPlain a × MadeOf (one_form w typed) names (k.Keyword (type_word t)) place a) q
-      (inr (inr (inl ((t, place), refl))), record {
-        good = (ap (λ f. kind_good typed (f names).0) (specifier_level-Word t place) ∙ word_good typed t, ap (λ f. w || not (is_storing (f names).0)) (specifier_level-Word t place) ∙ ap (λ b. w || not b) (word_storing t) ∙ or_true w);
-        spelt = specifier_spelling-Word t place;
-        seen = ap (λ f. (f names).1) (specifier_level-Word t place);
-        nested = specifier_nesting-Word t place;
-        stops = λ n rest. word_no_tag t place _;
-      })
+      subst (λ a. IsPlain a × MadeOf (one_form w typed) names (k.Keyword (type_word t)) place a) q (
+        inr (inr (inl ((t, place), refl))),
+        record {
+          good = (ap (λ f. kind_good typed (f names).0) (specifier_level-Word t place) ∙ word_good typed t, ap (λ f. w || not (is_storing (f names).0)) (specifier_level-Word t place) ∙ ap (λ b. w || not b) (word_storing t) ∙ or_true w);
+          spelt = specifier_spelling-Word t place;
+          seen = ap (λ f. (f names).1) (specifier_level-Word t place);
+          nested = specifier_nesting-Word t place;
+          stops = λ n rest. word_no_tag t place _;
+        },
+      )
 
   made_typedef : (id : Identifier) (a : Specifier) → (is_typedef_name names id.text && not typed) ≡ true → specifier.TypedefName id ≡ a → IsPlain a × MadeOf (one_form w typed) names (k.Name id.text) id.place a
   made_typedef id a e q =
-      subst (λ a. IsPlain a × MadeOf (one_form w typed) names (k.Name id.text) id.place a) q
-      (inr (inr (inr (id, refl))), record {
-        good = (ap (λ f. kind_good typed (f names).0) (specifier_level-TypedefName id) ∙ e, ap (λ f. w || not (is_storing (f names).0)) (specifier_level-TypedefName id) ∙ or_true w);
-        spelt = specifier_spelling-TypedefName id;
-        seen = ap (λ f. (f names).1) (specifier_level-TypedefName id);
-        nested = specifier_nesting-TypedefName id;
-        stops = λ n rest. typedef_no_tag id _;
-      })
+      subst (λ a. IsPlain a × MadeOf (one_form w typed) names (k.Name id.text) id.place a) q (
+        inr (inr (inr (id, refl))),
+        record {
+          good = (ap (λ f. kind_good typed (f names).0) (specifier_level-TypedefName id) ∙ e, ap (λ f. w || not (is_storing (f names).0)) (specifier_level-TypedefName id) ∙ or_true w);
+          spelt = specifier_spelling-TypedefName id;
+          seen = ap (λ f. (f names).1) (specifier_level-TypedefName id);
+          nested = specifier_nesting-TypedefName id;
+          stops = λ n rest. typedef_no_tag id _;
+        },
+      )
 
 some_is : {A : Type 0} (a b : A) → ◌≡◌ {A = Option A} (Some a) (Some b) → a ≡ b
 some_is a b h = cc
@@ -202,11 +208,19 @@ plain_taken w typed names a (inl i) g =
     }) g
 plain_taken w typed names a (inr (inl i)) g =
     subst (λ a. OneToken (one_form w typed) (plain_at w typed) names a) i.1 (record {
-      kind = k.Keyword word.Const; place = i.0; spelt = specifier_spelling-Const i.0; seen = ap (λ f. (f names).1) (specifier_level-Const i.0); picked = refl;
+      kind = k.Keyword word.Const;
+      place = i.0;
+      spelt = specifier_spelling-Const i.0;
+      seen = ap (λ f. (f names).1) (specifier_level-Const i.0);
+      picked = refl;
     })
 plain_taken w typed names a (inr (inr (inl i))) g =
     subst (λ a. OneToken (one_form w typed) (plain_at w typed) names a) i.1 (record {
-      kind = k.Keyword (type_word i.0.0); place = i.0.1; spelt = specifier_spelling-Word i.0.0 i.0.1; seen = ap (λ f. (f names).1) (specifier_level-Word i.0.0 i.0.1); picked = word_picked w typed names i.0.0 i.0.1;
+      kind = k.Keyword (type_word i.0.0);
+      place = i.0.1;
+      spelt = specifier_spelling-Word i.0.0 i.0.1;
+      seen = ap (λ f. (f names).1) (specifier_level-Word i.0.0 i.0.1);
+      picked = word_picked w typed names i.0.0 i.0.1;
     })
 plain_taken w typed names a (inr (inr (inr i))) g =
     let id : Identifier = i.0 in
@@ -259,14 +273,14 @@ tagged_exact : {B : Type 0} (key : Keyword) (pick : Names → TokenKind → Pos 
 tagged_exact key pick body more reads word exact opens =
     pre_exact (single (keyword key) always) (λ at. either (pre name_form (λ tag. either body (without (sees p.LeftBrace)))) body) more (one pick) _ (λ names a. refl) word
     (λ at. either_exact (pre name_form (λ tag. either body (without (sees p.LeftBrace)))) body more (λ i. is_name (peek i.1)) _ reads
-      (pre_exact name_form (λ tag. either body (without (sees p.LeftBrace))) more identifier _ (λ names a. refl) (identifier_exact more)
-        (λ tag. either_guarded body (without (sees p.LeftBrace)) more (sees p.LeftBrace) reads (pure tt) exact (without_guarded (sees p.LeftBrace) more)
-          (λ names b rest g s. let o = opens names b rest in ap (λ l. sees p.LeftBrace (names, l)) o.2 ∙ sees_mark p.LeftBrace names o.0 o.1)
-          (λ names u rest g s. subst (λ n. sees p.LeftBrace (n, rest) ≡ false) (append-nil names) s))
-        (λ names a b rest g h s. tt))
-      exact
-      (λ names t rest g s. ap is_name (peek_first (name_token t.0) _))
-      (λ names b rest g s. let o = opens names b rest in ap (λ l. is_name (peek l)) o.2 ∙ ap is_name (peek_mark p.LeftBrace o.0 o.1)))
+    (pre_exact name_form (λ tag. either body (without (sees p.LeftBrace))) more identifier _ (λ names a. refl) (identifier_exact more)
+    (λ tag. either_guarded body (without (sees p.LeftBrace)) more (sees p.LeftBrace) reads (pure tt) exact (without_guarded (sees p.LeftBrace) more)
+    (λ names b rest g s. let o = opens names b rest in ap (λ l. sees p.LeftBrace (names, l)) o.2 ∙ sees_mark p.LeftBrace names o.0 o.1)
+    (λ names u rest g s. subst (λ n. sees p.LeftBrace (n, rest) ≡ false) (append-nil names) s))
+    (λ names a b rest g h s. tt))
+    exact
+    (λ names t rest g s. ap is_name (peek_first (name_token t.0) _))
+    (λ names b rest g s. let o = opens names b rest in ap (λ l. is_name (peek l)) o.2 ∙ ap is_name (peek_mark p.LeftBrace o.0 o.1)))
     (λ names a b rest g h s. tt)
 
 -- what a specifier with braces or a tag is made of
@@ -277,11 +291,11 @@ tagged_is {B} word body f i =
     let inside : Identifier → Parser (B ⊎ Unit {0}) = λ tag. choose (sees p.LeftBrace) (map_to body inl) (map_to (pure tt) inr) in
     let tail : Pos → Parser ((Identifier × (B ⊎ Unit {0})) ⊎ B) = λ at. choose (λ i. is_name (peek i.1)) (map_to (both identifier inside) inl) (map_to body inr) in
     bind_same word _ (λ at. tail at >>= (λ u. pure (f at u)))
-      (λ at j. choose_same (λ i. is_name (peek i.1)) _ (map_to body (λ b. f at (inr b))) (map_to (both identifier inside) (λ t. f at (inl t))) (map_to body (λ b. f at (inr b)))
-        (λ j. bind_same identifier _ (λ tag. inside tag >>= (λ u. pure (f at (inl (tag, u))))) (λ tag j. choose_map (sees p.LeftBrace) body (pure tt) (λ u. f at (inl (tag, u))) j) j
-          ∙ two identifier inside (λ tag u. f at (inl (tag, u))) j)
-        (λ j. refl) j
-        ∙ choose_map (λ i. is_name (peek i.1)) (both identifier inside) body (f at) j) i
+    (λ at j. choose_same (λ i. is_name (peek i.1)) _ (map_to body (λ b. f at (inr b))) (map_to (both identifier inside) (λ t. f at (inl t))) (map_to body (λ b. f at (inr b)))
+    (λ j. bind_same identifier _ (λ tag. inside tag >>= (λ u. pure (f at (inl (tag, u))))) (λ tag j. choose_map (sees p.LeftBrace) body (pure tt) (λ u. f at (inl (tag, u))) j) j
+    ∙ two identifier inside (λ tag u. f at (inl (tag, u))) j)
+    (λ j. refl) j
+    ∙ choose_map (λ i. is_name (peek i.1)) (both identifier inside) body (f at) j) i
     ∙ two word tail f i
 
 -- ---- a struct, by its tag, its members or both
@@ -312,9 +326,10 @@ members_are names [] h = tt
 members_are names (x ∷ xs) h = let b = both_true (member_level x names).0 _ h in (b.0, members_are (names ++ (member_level x names).1) xs b.1)
 
 struct_told : (w typed : Bool) (names : Names) (at : Pos) (tag : Option Identifier) (b : StructBody) → struct_body_form.good names b → (one_form w typed).good names (specifier.Struct at tag b.0.0.0 (b.0.0.1 ∷ b.0.1) b.1)
-struct_told w typed names at tag b g =
-    (ap (λ f. kind_good typed (f names).0) (specifier_level-Struct at tag b.0.0.0 (b.0.0.1 ∷ b.0.1) b.1) ∙ both_are _ _ g.0.0.1 (members_told (names ++ (member_level b.0.0.1 names).1) b.0.1 g.0.1),
-      ap (λ f. w || not (is_storing (f names).0)) (specifier_level-Struct at tag b.0.0.0 (b.0.0.1 ∷ b.0.1) b.1) ∙ or_true w)
+struct_told w typed names at tag b g = (
+  ap (λ f. kind_good typed (f names).0) (specifier_level-Struct at tag b.0.0.0 (b.0.0.1 ∷ b.0.1) b.1) ∙ both_are _ _ g.0.0.1 (members_told (names ++ (member_level b.0.0.1 names).1) b.0.1 g.0.1),
+  ap (λ f. w || not (is_storing (f names).0)) (specifier_level-Struct at tag b.0.0.0 (b.0.0.1 ∷ b.0.1) b.1) ∙ or_true w,
+)
 
 told_struct : (w typed : Bool) (names : Names) (at : Pos) (tag : Option Identifier) (b : StructBody) → (one_form w typed).good names (specifier.Struct at tag b.0.0.0 (b.0.0.1 ∷ b.0.1) b.1) → struct_body_form.good names b
 told_struct w typed names at tag b g =
@@ -376,14 +391,14 @@ struct_from at (inr b) behind rest h = tt
 
 struct_node : (w typed : Bool) → Node struct_form struct_of (one_form w typed)
 struct_node w typed = record {
-    good = λ names t g. struct_good w typed names t.0 t.1 g;
-    parts = λ names t g. struct_parts w typed names t.0 t.1 g;
-    nested = λ t. struct_nested t.0 t.1;
-    spelt = λ t. struct_spelt t.0 t.1;
-    seen = λ names t. struct_seen names t.0 t.1;
-    stop = λ names t behind rest g h. struct_stop t.0 t.1 behind rest h;
-    from_stop = λ names t behind rest g h. struct_from t.0 t.1 behind rest h;
-  }
+  good = λ names t g. struct_good w typed names t.0 t.1 g;
+  parts = λ names t g. struct_parts w typed names t.0 t.1 g;
+  nested = λ t. struct_nested t.0 t.1;
+  spelt = λ t. struct_spelt t.0 t.1;
+  seen = λ names t. struct_seen names t.0 t.1;
+  stop = λ names t behind rest g h. struct_stop t.0 t.1 behind rest h;
+  from_stop = λ names t behind rest g h. struct_from t.0 t.1 behind rest h;
+}
 
 -- what is asked of what stands in brackets
 abbrev Specs : ℕ → Inner → Type 0
@@ -404,9 +419,9 @@ struct_reads : (more : ℕ) (inner : Inner) (i : State) → struct_specifier mor
 unfolding struct_specifier
 struct_reads more inner i =
     bind_same (one struct_at) _ (λ at. choose (λ i. is_name (peek i.1)) (identifier >>= (λ tag. choose (sees p.LeftBrace) (map_to (members_reader more inner) (λ b. struct_by at (inl (tag, inl b)))) (pure (struct_by at (inl (tag, inr tt)))))) (map_to (members_reader more inner) (λ b. struct_by at (inr b))))
-      (λ at j. choose_same (λ i. is_name (peek i.1)) (struct_tagged more inner at) (struct_body more inner at None) _ _
-        (λ j. bind_same identifier _ _ (λ tag j. choose_same (sees p.LeftBrace) (struct_body more inner at (Some tag)) (pure (specifier.StructTag at tag)) _ _ (body_is more inner at (Some tag)) (λ j. refl) j) j)
-        (body_is more inner at None) j) i
+    (λ at j. choose_same (λ i. is_name (peek i.1)) (struct_tagged more inner at) (struct_body more inner at None) _ _
+    (λ j. bind_same identifier _ _ (λ tag j. choose_same (sees p.LeftBrace) (struct_body more inner at (Some tag)) (pure (specifier.StructTag at tag)) _ _ (body_is more inner at (Some tag)) (λ j. refl) j) j)
+    (body_is more inner at None) j) i
     ∙ tagged_is (one struct_at) (members_reader more inner) struct_by i
 
 struct_opens : (names : Names) (b : StructBody) (rest : Tokens) → (from : Pos) × (ts : Tokens) × (struct_body_form.spell b ++ rest ≡ punct p.LeftBrace from ∷ ts)
@@ -416,7 +431,7 @@ struct_exact : (w typed : Bool) (more : ℕ) (inner : Inner) → Specs more inne
 struct_exact w typed more inner specs decls =
     same_exact (only (Image struct_of) (one_form w typed)) more _ (struct_specifier more inner) (struct_reads more inner)
     (node_exact struct_form struct_of (one_form w typed) more _
-      (tagged_exact word.Struct struct_at struct_body_form more (members_reader more inner) (one_exact (keyword word.Struct) always struct_at struct_picks (λ names a g. refl) more) (struct_body_exact more inner specs decls) struct_opens) (struct_node w typed))
+    (tagged_exact word.Struct struct_at struct_body_form more (members_reader more inner) (one_exact (keyword word.Struct) always struct_at struct_picks (λ names a g. refl) more) (struct_body_exact more inner specs decls) struct_opens) (struct_node w typed))
 
 -- ---- an enum, by its tag, its enumerators or both
 
@@ -457,10 +472,11 @@ no_first_comma (Some at) h = absurd cc
 
 enum_told : (w typed : Bool) (names : Names) (at : Pos) (tag : Option Identifier) (b : EnumBody) → enum_body_form.good names b → (one_form w typed).good names (braces_of at tag b)
 enum_told w typed names at tag b g =
-    let x : Enumerator = b.0.0.1 in
-    (ap (λ f. kind_good typed (f names).0) (specifier_level-Enum at tag b.0.0.0 (x ∷ b.0.1) b.1.0 b.1.1)
-      ∙ both_are _ _ (ap not (comma_told x names) ∙ ap (λ c. not (is_some c)) g.0.0.1.0) (both_are _ _ g.0.0.1.1 (rest_told (names ++ (enumerator_level x names).1) b.0.1 g.0.1)),
-      ap (λ f. w || not (is_storing (f names).0)) (specifier_level-Enum at tag b.0.0.0 (x ∷ b.0.1) b.1.0 b.1.1) ∙ or_true w)
+    let x : Enumerator = b.0.0.1 in (
+      ap (λ f. kind_good typed (f names).0) (specifier_level-Enum at tag b.0.0.0 (x ∷ b.0.1) b.1.0 b.1.1)
+          ∙ both_are _ _ (ap not (comma_told x names) ∙ ap (λ c. not (is_some c)) g.0.0.1.0) (both_are _ _ g.0.0.1.1 (rest_told (names ++ (enumerator_level x names).1) b.0.1 g.0.1)),
+      ap (λ f. w || not (is_storing (f names).0)) (specifier_level-Enum at tag b.0.0.0 (x ∷ b.0.1) b.1.0 b.1.1) ∙ or_true w,
+    )
 
 told_enum : (w typed : Bool) (names : Names) (at : Pos) (tag : Option Identifier) (b : EnumBody) → (one_form w typed).good names (braces_of at tag b) → enum_body_form.good names b
 told_enum w typed names at tag b g =
@@ -533,14 +549,14 @@ enum_from at (inr b) behind rest h = tt
 
 enum_node : (w typed : Bool) → Node enum_form enum_of (one_form w typed)
 enum_node w typed = record {
-    good = λ names t g. enum_good w typed names t.0 t.1 g;
-    parts = λ names t g. enum_parts w typed names t.0 t.1 g;
-    nested = λ t. enum_nested t.0 t.1;
-    spelt = λ t. enum_spelt t.0 t.1;
-    seen = λ names t. enum_seen names t.0 t.1;
-    stop = λ names t behind rest g h. enum_stop t.0 t.1 behind rest h;
-    from_stop = λ names t behind rest g h. enum_from t.0 t.1 behind rest h;
-  }
+  good = λ names t g. enum_good w typed names t.0 t.1 g;
+  parts = λ names t g. enum_parts w typed names t.0 t.1 g;
+  nested = λ t. enum_nested t.0 t.1;
+  spelt = λ t. enum_spelt t.0 t.1;
+  seen = λ names t. enum_seen names t.0 t.1;
+  stop = λ names t behind rest g h. enum_stop t.0 t.1 behind rest h;
+  from_stop = λ names t behind rest g h. enum_from t.0 t.1 behind rest h;
+}
 
 abbrev enumerators_reader : ℕ → Inner → Parser EnumBody
 enumerators_reader more inner = both (both (both (opening more p.LeftBrace) (λ from. one_enumerator more inner None)) (λ t. many goes_enumerator (next_enumerator more inner))) (λ t. both optional_comma (λ c. expect p.RightBrace))
@@ -549,15 +565,15 @@ braces_are : (more : ℕ) (inner : Inner) (at : Pos) (tag : Option Identifier) (
 unfolding enum_body
 braces_are more inner at tag i =
     five_pair (opening more p.LeftBrace) (λ from. one_enumerator more inner None) (λ from first. many goes_enumerator (next_enumerator more inner)) optional_comma (expect p.RightBrace)
-      (λ from first rest last to. specifier.Enum at tag from (first ∷ rest) last to) i
+    (λ from first rest last to. specifier.Enum at tag from (first ∷ rest) last to) i
 
 enum_reads : (more : ℕ) (inner : Inner) (i : State) → enum_specifier more inner i ≡ map_to (tagged_reader (one enum_at) (enumerators_reader more inner)) enum_of i
 unfolding enum_specifier
 enum_reads more inner i =
     bind_same (one enum_at) _ (λ at. choose (λ i. is_name (peek i.1)) (identifier >>= (λ tag. choose (sees p.LeftBrace) (map_to (enumerators_reader more inner) (λ b. enum_by at (inl (tag, inl b)))) (pure (enum_by at (inl (tag, inr tt)))))) (map_to (enumerators_reader more inner) (λ b. enum_by at (inr b))))
-      (λ at j. choose_same (λ i. is_name (peek i.1)) (enum_tagged more inner at) (enum_body more inner at None) _ _
-        (λ j. bind_same identifier _ _ (λ tag j. choose_same (sees p.LeftBrace) (enum_body more inner at (Some tag)) (pure (specifier.EnumTag at tag)) _ _ (braces_are more inner at (Some tag)) (λ j. refl) j) j)
-        (braces_are more inner at None) j) i
+    (λ at j. choose_same (λ i. is_name (peek i.1)) (enum_tagged more inner at) (enum_body more inner at None) _ _
+    (λ j. bind_same identifier _ _ (λ tag j. choose_same (sees p.LeftBrace) (enum_body more inner at (Some tag)) (pure (specifier.EnumTag at tag)) _ _ (braces_are more inner at (Some tag)) (λ j. refl) j) j)
+    (braces_are more inner at None) j) i
     ∙ tagged_is (one enum_at) (enumerators_reader more inner) enum_by i
 
 enum_opens : (names : Names) (b : EnumBody) (rest : Tokens) → (from : Pos) × (ts : Tokens) × (enum_body_form.spell b ++ rest ≡ punct p.LeftBrace from ∷ ts)
@@ -567,7 +583,7 @@ enum_exact : (w typed : Bool) (more : ℕ) (inner : Inner) → Exact (deeper (ex
 enum_exact w typed more inner exact =
     same_exact (only (Image enum_of) (one_form w typed)) more _ (enum_specifier more inner) (enum_reads more inner)
     (node_exact enum_form enum_of (one_form w typed) more _
-      (tagged_exact word.Enum enum_at enum_body_form more (enumerators_reader more inner) (one_exact (keyword word.Enum) always enum_at enum_picks (λ names a g. refl) more) (enum_body_exact more inner exact) enum_opens) (enum_node w typed))
+    (tagged_exact word.Enum enum_at enum_body_form more (enumerators_reader more inner) (one_exact (keyword word.Enum) always enum_at enum_picks (λ names a g. refl) more) (enum_body_exact more inner exact) enum_opens) (enum_node w typed))
 
 -- ---- which specifier comes next
 
@@ -638,11 +654,11 @@ unfolding one_specifier
 one_specifier_exact w typed more inner specs decls exact =
     whole_exact (λ x. Image struct_of x ⊎ (Image enum_of x ⊎ IsPlain x)) (one_form w typed) more _ (λ names x g. specifier_is (specifier_shape x) w typed names g)
     (choose_exact (Image struct_of) (λ x. Image enum_of x ⊎ IsPlain x) (one_form w typed) more (λ i. is_struct (peek i.1)) (struct_specifier more inner) _ (struct_exact w typed more inner specs decls)
-      (choose_exact (Image enum_of) IsPlain (one_form w typed) more (λ i. is_enum (peek i.1)) (enum_specifier more inner) (one (plain_at w typed)) (enum_exact w typed more inner exact) (plain_exact w typed more)
-        (λ names x rest i g s. enum_shown x rest i)
-        (λ names x rest i g s. plain_key is_enum storage_no_enum word_no_enum refl (λ text. refl) x rest i))
-      (λ names x rest i g s. struct_shown x rest i)
-      (λ names x rest i g s. no_struct_by x rest i))
+    (choose_exact (Image enum_of) IsPlain (one_form w typed) more (λ i. is_enum (peek i.1)) (enum_specifier more inner) (one (plain_at w typed)) (enum_exact w typed more inner exact) (plain_exact w typed more)
+    (λ names x rest i g s. enum_shown x rest i)
+    (λ names x rest i g s. plain_key is_enum storage_no_enum word_no_enum refl (λ text. refl) x rest i))
+    (λ names x rest i g s. struct_shown x rest i)
+    (λ names x rest i g s. no_struct_by x rest i))
 
 -- ---- specifiers in a row
 
@@ -669,13 +685,13 @@ no_specifier w typed names = refl
 
 specifiers_kept : (w : Bool) (more : ℕ) (inner : Inner) → Specs more inner → Decls more inner → Exact (deeper (expr_form conditional)) more (inner.expr conditional) → Kept (specifier_items w) more (λ typed. one_specifier more inner w typed)
 specifiers_kept w more inner specs decls exact = record {
-    sound = λ s names ts x end go h. (one_specifier_exact w s more inner specs decls exact).sound names ts x end h;
-    complete = λ s names x rest g n st. (one_specifier_exact w s more inner specs decls exact).complete names x rest g n st;
-    starts = λ s names x rest g st. starts_seen w s names (specifier_spelling x) rest (specifier_starts w s names x g);
-    ends = λ s names. no_specifier w s names;
-    follows = λ s names x y rest g h st. specifier_then w (s || is_type x) _ x y rest h;
-    some = λ s names x g. subst (λ l. 0 < length l) (sym (specifier_starts w s names x g).spelt) (omega arith);
-  }
+  sound = λ s names ts x end go h. (one_specifier_exact w s more inner specs decls exact).sound names ts x end h;
+  complete = λ s names x rest g n st. (one_specifier_exact w s more inner specs decls exact).complete names x rest g n st;
+  starts = λ s names x rest g st. starts_seen w s names (specifier_spelling x) rest (specifier_starts w s names x g);
+  ends = λ s names. no_specifier w s names;
+  follows = λ s names x y rest g h st. specifier_then w (s || is_type x) _ x y rest h;
+  some = λ s names x g. subst (λ l. 0 < length l) (sym (specifier_starts w s names x g).spelt) (omega arith);
+}
 
 abbrev row_form : Bool → Form (Specifier × List Specifier)
 row_form w = chain (one_form w false) (specifier_items w) (λ x. is_type x)
@@ -697,14 +713,14 @@ not_empty x xs h = absurd cc
 
 row_joint : (w : Bool) → Joint (row_form w) (λ t. t.0 ∷ t.1) (specifiers_form w)
 row_joint w = record {
-    good = λ names t g. (not_empty t.0 t.1, g);
-    split = row_split w;
-    nested = λ t. refl;
-    spelt = λ t. refl;
-    seen = λ names t. sym (added_in_row (specifier_items w) specifier_level (λ names x. refl) names (t.0 ∷ t.1));
-    stop = λ names t behind rest g h. row_stop w t.0 t.1 behind rest h;
-    from_stop = λ names t behind rest g h. stop_row w t.0 t.1 behind rest h;
-  }
+  good = λ names t g. (not_empty t.0 t.1, g);
+  split = row_split w;
+  nested = λ t. refl;
+  spelt = λ t. refl;
+  seen = λ names t. sym (added_in_row (specifier_items w) specifier_level (λ names x. refl) names (t.0 ∷ t.1));
+  stop = λ names t behind rest g h. row_stop w t.0 t.1 behind rest h;
+  from_stop = λ names t behind rest g h. stop_row w t.0 t.1 behind rest h;
+}
 
 pub specifiers_exact : (w : Bool) (more : ℕ) (inner : Inner) → Specs more inner → Decls more inner → Exact (deeper (expr_form conditional)) more (inner.expr conditional) → Exact (specifiers_form w) more (specifiers more inner w)
 unfolding specifiers
@@ -712,5 +728,5 @@ specifiers_exact w more inner specs decls exact =
     same_exact (specifiers_form w) more _ (specifiers more inner w)
     (two (one_specifier more inner w false) (λ first. many_by (goes_specifier more inner w) (one_specifier more inner w) (types more inner) (is_type first)) (λ first rest. first ∷ rest))
     (joint_exact (row_form w) (λ t. t.0 ∷ t.1) (specifiers_form w) more _
-      (chain_exact (one_form w false) (specifier_items w) (λ x. is_type x) more (one_specifier more inner w false) (λ typed. one_specifier more inner w typed) (one_specifier_exact w false more inner specs decls exact) (specifiers_kept w more inner specs decls exact)
-        (λ names x y rest g h st. specifier_then w (is_type x) _ x y rest h)) (row_joint w))
+    (chain_exact (one_form w false) (specifier_items w) (λ x. is_type x) more (one_specifier more inner w false) (λ typed. one_specifier more inner w typed) (one_specifier_exact w false more inner specs decls exact) (specifiers_kept w more inner specs decls exact)
+    (λ names x y rest g h st. specifier_then w (is_type x) _ x y rest h)) (row_joint w))

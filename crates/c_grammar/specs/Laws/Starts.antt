@@ -1,6 +1,6 @@
 -- The first token of an expression.
-use Rattle.std.specs.Prelude.{◌≡◌, ℕ, zero, suc, ◌+◌, ◌≤◌, ◌<◌, max, Bool, true, false, not, ◌&&◌, ◌||◌, if◌then◌else◌, nat_le, List, [], ◌∷◌, ◌++◌, length, map, Option, Some, None, Ok, refl}
-use Rattle.std.proofs.Common.{ap, sym, ◌∙◌, subst, cond, arith, append_assoc, append-nil, ◌⊎◌, inl, inr}
+use Rattle.std.specs.Prelude.{◌≡◌, ℕ, zero, suc, ◌≤◌, ◌<◌, Bool, true, false, not, ◌&&◌, ◌||◌, nat_le, List, [], ◌∷◌, ◌++◌, map, Option, Some, refl}
+use Rattle.std.proofs.Common.{ap, ◌∙◌, subst, arith, append_assoc}
 use Rattle.c_tree.specs.declared.token.Pos.{Pos}
 use Rattle.c_tree.specs.declared.token.Punct.{Punct}
 use Rattle.c_tree.specs.declared.token.Punct.TheVariants as p
@@ -13,22 +13,20 @@ use Rattle.c_tree.specs.declared.expression.Literal.{Literal}
 use Rattle.c_tree.specs.declared.expression.Expr.{Expr}
 use Rattle.c_tree.specs.declared.expression.Expr.TheVariants as expr
 use Rattle.c_tree.specs.declared.expression.Prefix.{Prefix}
-use Rattle.c_tree.specs.declared.expression.Next.{Next}
 use Rattle.c_tree.specs.Spelling.Tokens.{token, punct, mark, joined}
 use Rattle.c_tree.specs.Spelling.Trees.{expr_spelling, prefix_spelling, expr_spelling-Name, expr_spelling-Number, expr_spelling-Char, expr_spelling-Strings, expr_spelling-Paren, expr_spelling-Postfix, expr_spelling-SizeofType, expr_spelling-Prefixed, expr_spelling-Binary, expr_spelling-Conditional, expr_spelling-Assign, expr_spelling-Comma, prefix_spelling-Operator, prefix_spelling-Sizeof, prefix_spelling-Cast}
 use Rattle.c_tree.specs.Levels.Names.{Names, is_typedef_name, in_row}
-use Rattle.c_tree.specs.Levels.Productions.{primary, postfix, prefixed, unary, cast, product, or, conditional, assignment, comma, none, of_level, below}
-use Rattle.c_tree.specs.Levels.Facts.{filled, where_good, PrefixKind, Wrong, Loose, Tight, Typed, kind_of_mark, runs_on, Operand, targets}
+use Rattle.c_tree.specs.Levels.Productions.{primary, postfix, prefixed, unary, or, conditional, assignment, comma, none, of_level, below}
+use Rattle.c_tree.specs.Levels.Facts.{filled, PrefixKind, kind_of_mark, runs_on, Operand, targets}
 use Rattle.c_tree.specs.Levels.Trees.{expr_level, prefix_level, next_level, expr_level-Name, expr_level-Strings, expr_level-Postfix, expr_level-Prefixed, expr_level-Binary, expr_level-Conditional, expr_level-Assign, expr_level-Comma, prefix_level-Operator}
-use Rattle.c_grammar.specs.Input.{Tokens, State, peek, behind, is_mark, sees}
-use Rattle.c_grammar.specs.Punctuators.{same_mark, same_mark-itself}
+use Rattle.c_grammar.specs.Input.{Tokens, peek, is_mark, sees}
+use Rattle.c_grammar.specs.Punctuators.{same_mark}
 use Rattle.c_grammar.specs.Read.Inner.{begins_type}
 use Rattle.c_grammar.specs.Read.Expressions.{is_prefix_mark}
-use Rattle.c_grammar.specs.Read.Nodes.{begins_cast}
 use Rattle.c_grammar.specs.Laws.Form.{Image}
 use Rattle.c_grammar.specs.Laws.Cases.{ExprShape, expr_shape, PrefixShape, prefix_shape}
 use Rattle.c_grammar.specs.Laws.Behind.{both_true, nat_le-true, good_of}
-use Rattle.c_grammar.specs.Laws.Numbers.{shape_number, number_within, level_low, below_level}
+use Rattle.c_grammar.specs.Laws.Numbers.{below_level}
 
 -- ---- tokens that begin with a mark
 

@@ -1,40 +1,37 @@
 -- Type names are read exactly where specifiers and declarators are, and what stands behind them.
-use Rattle.std.specs.Prelude.{◌≡◌, ℕ, ◌+◌, ◌≤◌, max, Bool, true, false, not, ◌&&◌, ◌||◌, if◌then◌else◌, List, [], ◌∷◌, ◌++◌, map, Option, Some, None, is_some, is_none, refl}
-use Rattle.std.proofs.Common.{ap, sym, ◌∙◌, subst, cond, arith, append_assoc, append-nil, ◌⊎◌, inl, inr}
+use Rattle.std.specs.Prelude.{◌≡◌, Bool, true, false, not, ◌&&◌, ◌||◌, List, [], ◌∷◌, ◌++◌, map, refl}
+use Rattle.std.proofs.Common.{ap, sym, ◌∙◌, subst}
 use denote.Hole.Carrier.{out}
 use Rattle.c_tree.specs.declared.token.Pos.{Pos}
 use Rattle.c_tree.specs.declared.token.Punct.{Punct}
 use Rattle.c_tree.specs.declared.token.Punct.TheVariants as p
-use Rattle.c_tree.specs.declared.token.Token.{Token}
-use Rattle.c_tree.specs.declared.expression.TypeName.{TypeName, out-TypeName, roll-TypeName, roll-out-TypeName}
+use Rattle.c_tree.specs.declared.expression.TypeName.{TypeName, out-TypeName, roll-TypeName}
 use Rattle.c_tree.specs.declared.specifier.Specifier.{Specifier, out-Specifier}
 use Rattle.c_tree.specs.declared.declarator.Declarator.{Declarator}
 use Rattle.c_tree.specs.declared.declarator.Pointer.{Pointer}
 use Rattle.c_tree.specs.declared.declarator.Direct.{Direct}
 use Rattle.c_tree.specs.declared.declarator.DeclaratorSuffix.{DeclaratorSuffix}
-use Rattle.c_tree.specs.Spelling.Tokens.{punct, joined}
-use Rattle.c_tree.specs.Spelling.Trees.{specifier_spelling, declarator_spelling, type_name_spelling, type_name_spelling-is}
+use Rattle.c_tree.specs.Spelling.Tokens.{punct}
+use Rattle.c_tree.specs.Spelling.Trees.{declarator_spelling, type_name_spelling, type_name_spelling-is}
 use Rattle.c_tree.specs.Levels.Names.{Names, in_row}
 use Rattle.c_tree.specs.Levels.Facts.{filled, specify, names_type, has_storage, facts_of_specifiers, SpecifierKind, Storing, Qualifying, Voiding, Typing, Naming, Use, Declaring, Abstract, Parameter, declares}
 use Rattle.c_tree.specs.Levels.Trees.{specifier_level, declarator_level, type_name_level, type_name_level-is, specifier_level-Storage, specifier_level-Const, specifier_level-Word, specifier_level-StructTag, specifier_level-Struct, specifier_level-EnumTag, specifier_level-Enum, specifier_level-TypedefName}
 use Rattle.c_tree.specs.Levels.OfTrees.{kind_of_word}
 use Rattle.c_tree.specs.declared.specifier.TypeWord.{TypeWord}
 use Rattle.c_tree.specs.declared.specifier.TypeWord.TheVariants as type
-use Rattle.c_tree.specs.Nesting.OfTrees.{deepest}
-use Rattle.c_tree.specs.Nesting.Trees.{specifier_nesting, declarator_nesting, type_name_nesting, type_name_nesting-is}
+use Rattle.c_tree.specs.Nesting.Trees.{type_name_nesting-is}
 use Rattle.c_grammar.specs.Punctuators.{same_mark}
-use Rattle.c_grammar.specs.Input.{Tokens, State, Parser, ◌>>=◌, pure, peek, behind, is_mark, sees}
-use Rattle.c_grammar.specs.Read.Nodes.{is_type, name_type, is_nothing}
-use Rattle.c_grammar.specs.Read.Inner.{Inner, type_name, begins_specifier, is_const}
+use Rattle.c_grammar.specs.Input.{Tokens, peek, behind, is_mark}
+use Rattle.c_grammar.specs.Read.Nodes.{is_type, name_type}
+use Rattle.c_grammar.specs.Read.Inner.{begins_specifier, is_const}
 use Rattle.c_grammar.specs.Read.Declarators.{takes_name, opens_declarator}
-use Rattle.c_grammar.specs.Laws.Form.{Form, Exact, Node, Image, only, both, node_exact, same_exact, whole_exact, two, open_seq, open_exact}
-use Rattle.c_grammar.specs.Laws.Lists.{Items, all_good, all_added, all_stop, last_stop, list, chain, chain_stop, left, last_of, stop_made, added_in_row}
+use Rattle.c_grammar.specs.Laws.Form.{Node}
+use Rattle.c_grammar.specs.Laws.Lists.{all_good, all_stop, last_stop, stop_made}
 use Rattle.c_grammar.specs.Laws.Rows.{deeper, Closes}
 use Rattle.c_grammar.specs.Laws.Cases.{SpecifierShape, specifier_shape}
 use Rattle.c_grammar.specs.Laws.Behind.{both_true, both_are, peek_mark}
-use Rattle.c_grammar.specs.Laws.Starts.{peek_first}
 use Rattle.c_grammar.specs.Laws.SpecifierStarts.{StartsSpecifier, specifiers_start}
-use Rattle.c_grammar.specs.Laws.Forms.{kind_good, is_storing, is_tag, specifier_items, specifiers_form, pointer_items, nothing_stop, is_no_name, middle_form, behind_items, parts_form, parts_of, declarator_form, type_parts, type_form}
+use Rattle.c_grammar.specs.Laws.Forms.{kind_good, is_storing, is_tag, specifier_items, specifiers_form, pointer_items, nothing_stop, is_no_name, behind_items, parts_form, parts_of, declarator_form, type_parts, type_form}
 
 -- ---- which specifiers name a type
 
@@ -134,9 +131,10 @@ specifiers_told w typed names [] g = (refl, or_true w)
 specifiers_told w typed names (x ∷ xs) g =
     let names1 : Names = names ++ (specifier_level x names).1 in
     let kinds : List SpecifierKind = (in_row (map specifier_level xs) names1).0 in
-    let r = specifiers_told w (typed || is_type x) names1 xs g.1 in
-    (one_specified typed (specifier_level x names).0 kinds g.0.0 (subst (λ b. specify (typed || b) kinds ≡ true) (type_is x names) r.0),
-      ap (λ b. w || b) (no_storing (specifier_level x names).0 kinds) ∙ allows w (not (is_storing (specifier_level x names).0)) (not (has_storage kinds)) g.0.1 r.1)
+    let r = specifiers_told w (typed || is_type x) names1 xs g.1 in (
+      one_specified typed (specifier_level x names).0 kinds g.0.0 (subst (λ b. specify (typed || b) kinds ≡ true) (type_is x names) r.0),
+      ap (λ b. w || b) (no_storing (specifier_level x names).0 kinds) ∙ allows w (not (is_storing (specifier_level x names).0)) (not (has_storage kinds)) g.0.1 r.1,
+    )
 
 some_kinds : (xs : List Specifier) (names : Names) → filled (in_row (map specifier_level xs) names).0 ≡ true → xs ≡ [] → ⊥
 some_kinds [] names h e = absurd cc
@@ -245,14 +243,14 @@ type_good names t g =
 
 type_node : Node type_parts type_of_parts type_form
 type_node = record {
-    good = type_good;
-    parts = λ names t g. type_parts_good names (type_of_parts t) g;
-    nested = λ t. type_name_nesting-is (type_of_parts t);
-    spelt = λ t. type_name_spelling-is (type_of_parts t);
-    seen = λ names t. ap (λ f. (f names).1) (type_name_level-is (type_of_parts t));
-    stop = λ names t behind rest g h. h;
-    from_stop = λ names t behind rest g h. h;
-  }
+  good = type_good;
+  parts = λ names t g. type_parts_good names (type_of_parts t) g;
+  nested = λ t. type_name_nesting-is (type_of_parts t);
+  spelt = λ t. type_name_spelling-is (type_of_parts t);
+  seen = λ names t. ap (λ f. (f names).1) (type_name_level-is (type_of_parts t));
+  stop = λ names t behind rest g h. h;
+  from_stop = λ names t behind rest g h. h;
+}
 
 -- a type name begins with a specifier that is no storage word
 pub type_starts : (names : Names) (t : TypeName) → (type_name_level t names).0 ≡ true → StartsSpecifier false false names (type_name_spelling t)

@@ -1,5 +1,5 @@
 -- Runs of prefixes, casts and `sizeof` are read exactly (C11 6.5.3, 6.5.4).
-use Rattle.std.specs.Prelude.{◌≡◌, ℕ, zero, suc, ◌+◌, ◌≤◌, ◌<◌, max, Bool, true, false, not, ◌&&◌, ◌||◌, if◌then◌else◌, nat_le, List, [], ◌∷◌, ◌++◌, length, map, Option, Some, None, Ok, refl}
+use Rattle.std.specs.Prelude.{◌≡◌, ℕ, ◌≤◌, ◌<◌, Bool, true, false, not, ◌&&◌, ◌||◌, if◌then◌else◌, nat_le, List, [], ◌∷◌, ◌++◌, length, map, Option, Some, None, refl}
 use Rattle.std.proofs.Common.{ap, sym, ◌∙◌, subst, cond, arith, append_assoc, append-nil, ◌⊎◌, inl, inr}
 use denote.Hole.Carrier.{out}
 use Rattle.c_tree.specs.declared.token.Pos.{Pos}
@@ -12,7 +12,6 @@ use Rattle.c_tree.specs.declared.token.TokenKind.TheVariants as k
 use Rattle.c_tree.specs.declared.token.Token.{Token}
 use Rattle.c_tree.specs.declared.expression.Mark.{Mark}
 use Rattle.c_tree.specs.declared.expression.TypeName.{TypeName}
-use Rattle.c_tree.specs.declared.expression.Suffix.{Suffix}
 use Rattle.c_tree.specs.declared.expression.Expr.{Expr}
 use Rattle.c_tree.specs.declared.expression.Expr.TheVariants as expr
 use Rattle.c_tree.specs.declared.expression.Prefix.{Prefix, out-Prefix}
@@ -20,31 +19,30 @@ use Rattle.c_tree.specs.declared.expression.Prefix.TheVariants as prefix
 use Rattle.c_tree.specs.declared.declarator.DeclaratorSuffix.TheOpen.{Prefix-F}
 use Rattle.c_tree.specs.Layers.{PrefixLayer}
 use Rattle.c_tree.specs.Spelling.Tokens.{token, punct, keyword, mark, joined}
-use Rattle.c_tree.specs.Spelling.Trees.{expr_spelling, prefix_spelling, suffix_spelling, type_name_spelling, expr_spelling-Name, expr_spelling-Number, expr_spelling-Char, expr_spelling-Strings, expr_spelling-Paren, expr_spelling-Postfix, expr_spelling-SizeofType, expr_spelling-Prefixed, prefix_spelling-Operator, prefix_spelling-Sizeof, prefix_spelling-Cast}
+use Rattle.c_tree.specs.Spelling.Trees.{expr_spelling, prefix_spelling, suffix_spelling, type_name_spelling, expr_spelling-Name, expr_spelling-Number, expr_spelling-Char, expr_spelling-Strings, expr_spelling-Paren, expr_spelling-SizeofType, expr_spelling-Prefixed, prefix_spelling-Operator, prefix_spelling-Sizeof, prefix_spelling-Cast}
 use Rattle.c_tree.specs.Levels.Names.{Names, in_row}
-use Rattle.c_tree.specs.Levels.Productions.{primary, postfix, prefixed, unary, cast, product, assignment, comma, none, joins}
-use Rattle.c_tree.specs.Levels.Facts.{same, filled, where_good, PrefixKind, Wrong, Loose, Tight, Typed, kind_of_mark, runs_on, begins_typed}
-use Rattle.c_tree.specs.Levels.Trees.{expr_level, prefix_level, type_name_level, expr_level-Strings, expr_level-Paren, expr_level-Postfix, expr_level-SizeofType, expr_level-Prefixed, prefix_level-Operator, prefix_level-Sizeof, prefix_level-Cast}
-use Rattle.c_tree.specs.Nesting.OfTrees.{deepest}
-use Rattle.c_tree.specs.Nesting.Trees.{expr_nesting, prefix_nesting, type_name_nesting, expr_nesting-SizeofType, expr_nesting-Prefixed, prefix_nesting-Operator, prefix_nesting-Sizeof, prefix_nesting-Cast}
-use Rattle.c_grammar.specs.Input.{Tokens, State, Parser, ◌>>=◌, pure, choose, peek, behind, is_mark, sees, goes, joins_with, one, expect, opening, many_by}
+use Rattle.c_tree.specs.Levels.Productions.{primary, postfix, prefixed, unary, cast, comma, none, joins}
+use Rattle.c_tree.specs.Levels.Facts.{PrefixKind, Wrong, Loose, Tight, Typed, kind_of_mark, runs_on, begins_typed}
+use Rattle.c_tree.specs.Levels.Trees.{expr_level, prefix_level, type_name_level, expr_level-Strings, expr_level-Paren, expr_level-SizeofType, expr_level-Prefixed, prefix_level-Operator, prefix_level-Sizeof, prefix_level-Cast}
+use Rattle.c_tree.specs.Nesting.Trees.{expr_nesting, prefix_nesting, expr_nesting-SizeofType, expr_nesting-Prefixed, prefix_nesting-Operator, prefix_nesting-Sizeof, prefix_nesting-Cast}
+use Rattle.c_grammar.specs.Input.{Tokens, State, peek, behind, is_mark, sees, one, expect, opening, many_by}
 use Rattle.c_grammar.specs.Punctuators.{same_mark}
-use Rattle.c_grammar.specs.Read.Nodes.{with_run, is_cast, begins_cast, is_tight, ties}
+use Rattle.c_grammar.specs.Read.Nodes.{with_run, begins_cast, is_tight, ties}
 use Rattle.c_grammar.specs.Read.Inner.{Inner, type_name, is_sizeof, begins_type}
 use Rattle.c_grammar.specs.Read.Expressions.{prefix_of, prefix_at, sizeof_at, is_prefix_mark, begins_mark, sees_cast, sees_sizeof_type, goes_prefix, postfixed, cast_prefix, one_prefix, sizeof_type, prefixed as read_prefixed, cast as read_cast}
 use Rattle.c_grammar.specs.Ending.OfTrees.{Ending, run_target}
 use Rattle.c_grammar.specs.Ending.Trees.{expr_ending, prefix_ending, expr_ending-SizeofType, expr_ending-Prefixed}
-use Rattle.c_grammar.specs.Laws.Form.{Form, Got, Exact, Node, Image, Split, Joint, only, both, seq, seq_exact, node_exact, joint_exact, same_exact, choose_exact, whole_exact, two, three, four}
-use Rattle.c_grammar.specs.Laws.Lists.{Items, Kept, all_good, all_added, all_stop, last_stop, list, list_exact, chain, last_of, left, stop_goes, stop_last, stop_made, added_in_row}
-use Rattle.c_grammar.specs.Laws.Single.{single, one_exact, MadeOf, OneToken, pick_exact, always, opening_form, opening_exact, mark_form, expect_exact, sees_mark}
-use Rattle.c_grammar.specs.Laws.Rows.{pre, pre_exact, deeper, opened, opened_exact, closed, closed_exact, bracketed, bracketed_exact, Closes}
+use Rattle.c_grammar.specs.Laws.Form.{Form, Exact, Node, Image, Split, Joint, only, seq, seq_exact, node_exact, joint_exact, same_exact, choose_exact, whole_exact, two, three, four}
+use Rattle.c_grammar.specs.Laws.Lists.{Items, Kept, all_good, all_added, all_stop, list, list_exact, last_of, stop_made, added_in_row}
+use Rattle.c_grammar.specs.Laws.Single.{single, one_exact, MadeOf, OneToken, pick_exact, always, opening_form, opening_exact, sees_mark}
+use Rattle.c_grammar.specs.Laws.Rows.{pre, pre_exact, deeper, closed, closed_exact, bracketed, bracketed_exact}
 use Rattle.c_grammar.specs.Laws.Cases.{ExprShape, expr_shape, PrefixShape, prefix_shape}
-use Rattle.c_grammar.specs.Laws.Behind.{goes_by, goes_on, expr_form, both_true, both_are, nat_le-true, nat_le-is, same-true, good_of, where_is, nat_le-false, peek_mark, over_gap, retarget, next_level as next_production}
+use Rattle.c_grammar.specs.Laws.Behind.{goes_on, expr_form, both_true, both_are, nat_le-true, nat_le-is, good_of, where_is, nat_le-false, over_gap, retarget}
 use Rattle.c_grammar.specs.Laws.Numbers.{shape_number, number_within, tighter, level_low}
-use Rattle.c_grammar.specs.Laws.Starts.{Starts, starts, peek_first, no_type}
-use Rattle.c_grammar.specs.Laws.Postfix.{InsideExpr, postfix_exact, run_high, postfix_form, postfix_split, postfix_spelt, above_primary}
+use Rattle.c_grammar.specs.Laws.Starts.{starts, peek_first, no_type}
+use Rattle.c_grammar.specs.Laws.Postfix.{InsideExpr, postfix_exact, run_high, postfix_split, postfix_spelt, above_primary}
 use Rattle.c_grammar.specs.Laws.Forms.{type_form}
-use Rattle.c_grammar.specs.Laws.SpecifierStarts.{StartsSpecifier, starts_seen}
+use Rattle.c_grammar.specs.Laws.SpecifierStarts.{starts_seen}
 use Rattle.c_grammar.specs.Laws.TypeNames.{type_starts, type_closes}
 
 -- ---- one prefix
@@ -63,12 +61,12 @@ is_sizeof_prefix x = is_sizeof_layer (out-Prefix x)
 
 abbrev prefix_form : Form Prefix
 prefix_form = record {
-    spell = prefix_spelling;
-    good = λ names x. kind_fits false (prefix_level x names).0 ≡ true;
-    adds = λ names x. (prefix_level x names).1;
-    nest = prefix_nesting;
-    stop = λ x names rest. Unit {0};
-  }
+  spell = prefix_spelling;
+  good = λ names x. kind_fits false (prefix_level x names).0 ≡ true;
+  adds = λ names x. (prefix_level x names).1;
+  nest = prefix_nesting;
+  stop = λ x names rest. Unit {0};
+}
 
 abbrev cast_of : (Pos × TypeName) × Pos → Prefix
 cast_of t = prefix.Cast t.0.0 t.0.1 t.1
@@ -86,14 +84,14 @@ kind_cast false h = absurd cc
 
 cast_node : Node cast_form cast_of prefix_form
 cast_node = record {
-    good = λ names t g. ap (λ f. kind_fits false (f names).0) (prefix_level-Cast t.0.0 t.0.1 t.1) ∙ cast_kind (type_name_level t.0.1 names).0 g.0.1;
-    parts = λ names t g. ((tt, kind_cast (type_name_level t.0.1 names).0 (sym (ap (λ f. kind_fits false (f names).0) (prefix_level-Cast t.0.0 t.0.1 t.1)) ∙ g)), tt);
-    nested = λ t. prefix_nesting-Cast t.0.0 t.0.1 t.1 ∙ omega arith;
-    spelt = λ t. prefix_spelling-Cast t.0.0 t.0.1 t.1;
-    seen = λ names t. ap (λ f. (f names).1) (prefix_level-Cast t.0.0 t.0.1 t.1);
-    stop = λ names t behind rest g h. tt;
-    from_stop = λ names t behind rest g h. tt;
-  }
+  good = λ names t g. ap (λ f. kind_fits false (f names).0) (prefix_level-Cast t.0.0 t.0.1 t.1) ∙ cast_kind (type_name_level t.0.1 names).0 g.0.1;
+  parts = λ names t g. ((tt, kind_cast (type_name_level t.0.1 names).0 (sym (ap (λ f. kind_fits false (f names).0) (prefix_level-Cast t.0.0 t.0.1 t.1)) ∙ g)), tt);
+  nested = λ t. prefix_nesting-Cast t.0.0 t.0.1 t.1 ∙ omega arith;
+  spelt = λ t. prefix_spelling-Cast t.0.0 t.0.1 t.1;
+  seen = λ names t. ap (λ f. (f names).1) (prefix_level-Cast t.0.0 t.0.1 t.1);
+  stop = λ names t behind rest g h. tt;
+  from_stop = λ names t behind rest g h. tt;
+}
 
 cast_prefix_exact : (more : ℕ) (inner : Inner) → Exact (deeper type_form) more (type_name inner) → Exact (only (Image cast_of) prefix_form) more (cast_prefix more inner)
 unfolding cast_prefix
@@ -124,37 +122,43 @@ mark_kind names op place Typed e a h = absurd cc
 mark_kind names op place Loose e a h =
     let m : Mark = record { punct = op; place = place } in
     let w : prefix.Operator m ≡ a = cc in
-    subst (λ a. IsPlain a × MadeOf prefix_form names (k.Punct op) place a) w
-    (inl (m, refl), record {
-      good = ap (λ f. kind_fits false (f names).0) (prefix_level-Operator m) ∙ ap (kind_fits false) e;
-      spelt = prefix_spelling-Operator m;
-      seen = ap (λ f. (f names).1) (prefix_level-Operator m);
-      nested = prefix_nesting-Operator m;
-      stops = λ n rest. tt;
-    })
+    subst (λ a. IsPlain a × MadeOf prefix_form names (k.Punct op) place a) w (
+      inl (m, refl),
+      record {
+        good = ap (λ f. kind_fits false (f names).0) (prefix_level-Operator m) ∙ ap (kind_fits false) e;
+        spelt = prefix_spelling-Operator m;
+        seen = ap (λ f. (f names).1) (prefix_level-Operator m);
+        nested = prefix_nesting-Operator m;
+        stops = λ n rest. tt;
+      },
+    )
 mark_kind names op place Tight e a h =
     let m : Mark = record { punct = op; place = place } in
     let w : prefix.Operator m ≡ a = cc in
-    subst (λ a. IsPlain a × MadeOf prefix_form names (k.Punct op) place a) w
-    (inl (m, refl), record {
-      good = ap (λ f. kind_fits false (f names).0) (prefix_level-Operator m) ∙ ap (kind_fits false) e;
-      spelt = prefix_spelling-Operator m;
-      seen = ap (λ f. (f names).1) (prefix_level-Operator m);
-      nested = prefix_nesting-Operator m;
-      stops = λ n rest. tt;
-    })
+    subst (λ a. IsPlain a × MadeOf prefix_form names (k.Punct op) place a) w (
+      inl (m, refl),
+      record {
+        good = ap (λ f. kind_fits false (f names).0) (prefix_level-Operator m) ∙ ap (kind_fits false) e;
+        spelt = prefix_spelling-Operator m;
+        seen = ap (λ f. (f names).1) (prefix_level-Operator m);
+        nested = prefix_nesting-Operator m;
+        stops = λ n rest. tt;
+      },
+    )
 
 sizeof_made : (names : Names) (key : Keyword) (place : Pos) (a : Prefix) → prefix_at names (k.Keyword key) place ≡ Some a → IsPlain a × MadeOf prefix_form names (k.Keyword key) place a
 sizeof_made names word.Sizeof place a h =
     let w : prefix.Sizeof place ≡ a = cc in
-    subst (λ a. IsPlain a × MadeOf prefix_form names (k.Keyword word.Sizeof) place a) w
-    (inr (place, refl), record {
-      good = ap (λ f. kind_fits false (f names).0) (prefix_level-Sizeof place);
-      spelt = prefix_spelling-Sizeof place;
-      seen = ap (λ f. (f names).1) (prefix_level-Sizeof place);
-      nested = prefix_nesting-Sizeof place;
-      stops = λ n rest. tt;
-    })
+    subst (λ a. IsPlain a × MadeOf prefix_form names (k.Keyword word.Sizeof) place a) w (
+      inr (place, refl),
+      record {
+        good = ap (λ f. kind_fits false (f names).0) (prefix_level-Sizeof place);
+        spelt = prefix_spelling-Sizeof place;
+        seen = ap (λ f. (f names).1) (prefix_level-Sizeof place);
+        nested = prefix_nesting-Sizeof place;
+        stops = λ n rest. tt;
+      },
+    )
 sizeof_made names _ place a h = absurd cc
 
 plain_made : (names : Names) (kind : TokenKind) (place : Pos) (a : Prefix) → prefix_at names kind place ≡ Some a → IsPlain a × MadeOf prefix_form names kind place a
@@ -236,7 +240,7 @@ unfolding one_prefix
 prefix_exact more inner types =
     whole_exact (λ x. Image cast_of x ⊎ IsPlain x) prefix_form more _ (λ names x g. prefix_is (prefix_shape x))
     (choose_exact (Image cast_of) IsPlain prefix_form more (sees p.LeftParen) (cast_prefix more inner) (one prefix_at) (cast_prefix_exact more inner types) (plain_exact more)
-      (λ names x rest i g s. cast_open names x rest i) (λ names x rest i g s. plain_shut names names x rest i g))
+    (λ names x rest i g s. cast_open names x rest i) (λ names x rest i g s. plain_shut names names x rest i g))
 
 -- ---- `(` type name `)` is seen
 
@@ -264,14 +268,14 @@ cast_seen names from type to rest g =
 
 abbrev pub prefix_items : Items Bool Prefix
 prefix_items = record {
-    spell = prefix_spelling;
-    good = λ tight names x. kind_fits tight (prefix_level x names).0 ≡ true;
-    adds = prefix_form.adds;
-    nest = prefix_nesting;
-    stop = λ x names rest. (is_sizeof_prefix x && sees_cast (names, rest)) ≡ false;
-    goes = goes_prefix;
-    step = λ tight x. ties x;
-  }
+  spell = prefix_spelling;
+  good = λ tight names x. kind_fits tight (prefix_level x names).0 ≡ true;
+  adds = prefix_form.adds;
+  nest = prefix_nesting;
+  stop = λ x names rest. (is_sizeof_prefix x && sees_cast (names, rest)) ≡ false;
+  goes = goes_prefix;
+  step = λ tight x. ties x;
+}
 
 fits_less : (tight : Bool) (kind : PrefixKind) → kind_fits tight kind ≡ true → kind_fits false kind ≡ true
 fits_less tight Wrong h = absurd cc
@@ -310,10 +314,10 @@ shape_goes : {x : Prefix} → PrefixShape x → (tight : Bool) (names : Names) (
 unfolding goes_prefix sees_sizeof_type
 shape_goes (PrefixShape.a_operator m) tight names rest g st =
     or_left _ _ (ap (λ l. begins_mark (peek (l ++ rest))) (prefix_spelling-Operator m) ∙ ap begins_mark (peek_first (mark m) rest)
-      ∙ mark_begins m.punct (kind_of_mark m.punct) refl (fits_less tight _ (sym (ap (λ f. kind_fits tight (f names).0) (prefix_level-Operator m)) ∙ g)))
+    ∙ mark_begins m.punct (kind_of_mark m.punct) refl (fits_less tight _ (sym (ap (λ f. kind_fits tight (f names).0) (prefix_level-Operator m)) ∙ g)))
 shape_goes (PrefixShape.a_sizeof at) tight names rest g st =
     let quiet : sees_cast (names, rest) ≡ false = subst (λ n. sees_cast (n, rest) ≡ false) (ap (λ l. names ++ l) (ap (λ f. (f names).1) (prefix_level-Sizeof at)) ∙ append-nil names)
-          (subst (λ b. (b && sees_cast (names ++ (prefix_level (prefix.Sizeof at) names).1, rest)) ≡ false) (sizeof_plain at) st) in
+    (subst (λ b. (b && sees_cast (names ++ (prefix_level (prefix.Sizeof at) names).1, rest)) ≡ false) (sizeof_plain at) st) in
     ap (λ l. goes_prefix tight (names, l ++ rest)) (prefix_spelling-Sizeof at) ∙ sizeof_goes quiet
   where
     sizeof_goes : sees_cast (names, rest) ≡ false → goes_prefix tight (names, keyword word.Sizeof at ∷ rest) ≡ true
@@ -321,7 +325,7 @@ shape_goes (PrefixShape.a_sizeof at) tight names rest g st =
 shape_goes (PrefixShape.a_cast from type to) tight names rest g st =
     let u = untied tight (type_name_level type names).0 (sym (ap (λ f. kind_fits tight (f names).0) (prefix_level-Cast from type to)) ∙ g) in
     or_right (begins_mark (peek (prefix_spelling (prefix.Cast from type to) ++ rest))) _ (or_right (is_sizeof (peek (prefix_spelling (prefix.Cast from type to) ++ rest)) && not (sees_sizeof_type (names, prefix_spelling (prefix.Cast from type to) ++ rest))) _
-      (both_are (not tight) _ (ap not u.0) (cast_seen names from type to rest u.1)))
+    (both_are (not tight) _ (ap not u.0) (cast_seen names from type to rest u.1)))
   where
     or_right : (a b : Bool) → b ≡ true → (a || b) ≡ true
     or_right true b h = refl
@@ -390,9 +394,10 @@ shape_sound (PrefixShape.a_sizeof at) tight names ts end e seen go g =
     (ap (λ f. kind_fits tight (f names).0) (prefix_level-Sizeof at), sizeof_is at (sees_cast end) (subst (λ m. sees_cast (m, end.1) ≡ false) n q))
 shape_sound (PrefixShape.a_cast from type to) tight names ts end e seen go g =
     let e1 : ts ≡ punct p.LeftParen from ∷ ((type_name_spelling type ++ punct p.RightParen to ∷ []) ++ end.1) = e ∙ ap (λ l. l ++ end.1) (prefix_spelling-Cast from type to) in
-    let t = cast_next tight names from _ (subst (λ l. goes_prefix tight (names, l) ≡ true) e1 go) in
-    (ap (λ f. kind_fits tight (f names).0) (prefix_level-Cast from type to) ∙ fits_cast tight (type_name_level type names).0 t (sym (ap (λ f. kind_fits false (f names).0) (prefix_level-Cast from type to)) ∙ g),
-      cast_no_sizeof from type to (sees_cast end))
+    let t = cast_next tight names from _ (subst (λ l. goes_prefix tight (names, l) ≡ true) e1 go) in (
+      ap (λ f. kind_fits tight (f names).0) (prefix_level-Cast from type to) ∙ fits_cast tight (type_name_level type names).0 t (sym (ap (λ f. kind_fits false (f names).0) (prefix_level-Cast from type to)) ∙ g),
+      cast_no_sizeof from type to (sees_cast end),
+    )
 
 ties_sizeof : (at : Pos) → ties (prefix.Sizeof at) ≡ true
 unfolding ties out-Prefix out
@@ -424,16 +429,16 @@ some_prefix (PrefixShape.a_cast from type to) = rw (prefix_spelling-Cast from ty
 
 prefixes_kept : (more : ℕ) (inner : Inner) → Exact (deeper type_form) more (type_name inner) → Kept prefix_items more (λ s. one_prefix more inner)
 prefixes_kept more inner types = record {
-    sound = λ s names ts x end go h.
-        let g = (prefix_exact more inner types).sound names ts x end h in
-        let w = shape_sound (prefix_shape x) s names ts end g.spelt g.seen go g.good in
-        record { good = w.0; nested = g.nested; spelt = g.spelt; seen = g.seen; stops = w.1 };
-    complete = λ s names x rest g n st. (prefix_exact more inner types).complete names x rest (fits_less s _ g) n tt;
-    starts = λ s names x rest g st. shape_goes (prefix_shape x) s names rest g st;
-    ends = no_prefix;
-    follows = λ s names x y rest g h st. shape_follows (prefix_shape x) (names ++ (prefix_level x names).1) y rest h;
-    some = λ s names x g. some_prefix (prefix_shape x);
-  }
+  sound = λ s names ts x end go h.
+      let g = (prefix_exact more inner types).sound names ts x end h in
+      let w = shape_sound (prefix_shape x) s names ts end g.spelt g.seen go g.good in
+      record { good = w.0; nested = g.nested; spelt = g.spelt; seen = g.seen; stops = w.1 };
+  complete = λ s names x rest g n st. (prefix_exact more inner types).complete names x rest (fits_less s _ g) n tt;
+  starts = λ s names x rest g st. shape_goes (prefix_shape x) s names rest g st;
+  ends = no_prefix;
+  follows = λ s names x y rest g h st. shape_follows (prefix_shape x) (names ++ (prefix_level x names).1) y rest h;
+  some = λ s names x g. some_prefix (prefix_shape x);
+}
 
 -- what the levels tell of a run
 
@@ -497,7 +502,7 @@ primary_no_prefix (ExprShape.a_strings (l ∷ ls)) names rest h = subst (λ l. N
 primary_no_prefix (ExprShape.a_paren from inner to) names rest h =
     let g = nat_le-true (expr_level inner names).0 comma (good_of _ primary primary (rw (expr_level-Paren from inner to) at h) (omega arith)).0 in
     let flat : (punct p.LeftParen from ∷ (expr_spelling inner ++ punct p.RightParen to ∷ [])) ++ rest ≡ punct p.LeftParen from ∷ (expr_spelling inner ++ (punct p.RightParen to ∷ rest)) =
-          ap (λ l. punct p.LeftParen from ∷ l) (append_assoc (expr_spelling inner) (punct p.RightParen to ∷ []) rest) in
+    ap (λ l. punct p.LeftParen from ∷ l) (append_assoc (expr_spelling inner) (punct p.RightParen to ∷ []) rest) in
     subst (NoPrefix names) (sym (ap (λ l. l ++ rest) (expr_spelling-Paren from inner to) ∙ flat))
     (unmarked names (punct p.LeftParen from) _ refl refl (paren_no_cast names from to inner (punct p.RightParen to ∷ rest) g))
 primary_no_prefix (ExprShape.a_postfix a xs) names rest h = absurd (above_primary (ExprShape.a_postfix a xs) names h (omega arith))
@@ -564,27 +569,27 @@ sized_stop (Some (k.Char value)) = omega arith
 
 sizeof_node : Node sizeof_parts sizeof_of (expr_form prefixed)
 sizeof_node = record {
-    good = λ names t g. rw (expr_level-SizeofType t.0.0.0 t.0.0.1 t.0.1 t.1) (where_is _ prefixed prefixed g.0.1 (omega arith));
-    parts = λ names t g. (((tt, tt), (good_of (type_name_level t.0.1 names).0 prefixed prefixed (rw (expr_level-SizeofType t.0.0.0 t.0.0.1 t.0.1 t.1) at g) (omega arith)).0), tt);
-    nested = λ t. expr_nesting-SizeofType t.0.0.0 t.0.0.1 t.0.1 t.1 ∙ omega arith;
-    spelt = λ t. expr_spelling-SizeofType t.0.0.0 t.0.0.1 t.0.1 t.1;
-    seen = λ names t. ap (λ f. (f names).1) (expr_level-SizeofType t.0.0.0 t.0.0.1 t.0.1 t.1);
-    stop = λ names t behind rest g h. subst (λ e. prefixed < goes_on e (peek rest)) (sym (expr_ending-SizeofType t.0.0.0 t.0.0.1 t.0.1 t.1)) (let a = over_gap sized (peek rest) (sized_stop (peek rest)) in omega arith);
-    from_stop = λ names t behind rest g h. tt;
-  }
+  good = λ names t g. rw (expr_level-SizeofType t.0.0.0 t.0.0.1 t.0.1 t.1) (where_is _ prefixed prefixed g.0.1 (omega arith));
+  parts = λ names t g. (((tt, tt), (good_of (type_name_level t.0.1 names).0 prefixed prefixed (rw (expr_level-SizeofType t.0.0.0 t.0.0.1 t.0.1 t.1) at g) (omega arith)).0), tt);
+  nested = λ t. expr_nesting-SizeofType t.0.0.0 t.0.0.1 t.0.1 t.1 ∙ omega arith;
+  spelt = λ t. expr_spelling-SizeofType t.0.0.0 t.0.0.1 t.0.1 t.1;
+  seen = λ names t. ap (λ f. (f names).1) (expr_level-SizeofType t.0.0.0 t.0.0.1 t.0.1 t.1);
+  stop = λ names t behind rest g h. subst (λ e. prefixed < goes_on e (peek rest)) (sym (expr_ending-SizeofType t.0.0.0 t.0.0.1 t.0.1 t.1)) (let a = over_gap sized (peek rest) (sized_stop (peek rest)) in omega arith);
+  from_stop = λ names t behind rest g h. tt;
+}
 
 sizeof_exact : (more : ℕ) (inner : Inner) → Exact (deeper type_form) more (type_name inner) → Exact (only (Image sizeof_of) (expr_form prefixed)) more (sizeof_type more inner)
 unfolding sizeof_type
 sizeof_exact more inner types =
     same_exact (only (Image sizeof_of) (expr_form prefixed)) more _ (sizeof_type more inner)
-      (four (one sizeof_at) (λ at. opening more p.LeftParen) (λ at from. type_name inner) (λ at from type. expect p.RightParen) (λ at from type to. expr.SizeofType at from type to))
+    (four (one sizeof_at) (λ at. opening more p.LeftParen) (λ at from. type_name inner) (λ at from type. expect p.RightParen) (λ at from type to. expr.SizeofType at from type to))
     (node_exact sizeof_parts sizeof_of (expr_form prefixed) more _
-      (closed_exact (pre (pre sizeof_form (λ _. opening_form p.LeftParen)) (λ _. deeper type_form)) p.RightParen more _
-        (pre_exact (pre sizeof_form (λ _. opening_form p.LeftParen)) (λ _. deeper type_form) more _ (λ t. type_name inner) (λ names t. refl)
-          (pre_exact sizeof_form (λ _. opening_form p.LeftParen) more (one sizeof_at) (λ _. opening more p.LeftParen) (λ names a. refl)
-            (one_exact (keyword word.Sizeof) always sizeof_at sizeof_picks (λ names a g. refl) more) (λ _. opening_exact p.LeftParen more) (λ names a b rest g h s. tt))
-          (λ _. types) (λ names a b rest g h s. tt))
-        (λ names t at rest g. type_closes names t.1 at rest g.1)) sizeof_node)
+    (closed_exact (pre (pre sizeof_form (λ _. opening_form p.LeftParen)) (λ _. deeper type_form)) p.RightParen more _
+    (pre_exact (pre sizeof_form (λ _. opening_form p.LeftParen)) (λ _. deeper type_form) more _ (λ t. type_name inner) (λ names t. refl)
+    (pre_exact sizeof_form (λ _. opening_form p.LeftParen) more (one sizeof_at) (λ _. opening more p.LeftParen) (λ names a. refl)
+    (one_exact (keyword word.Sizeof) always sizeof_at sizeof_picks (λ names a g. refl) more) (λ _. opening_exact p.LeftParen more) (λ names a b rest g h s. tt))
+    (λ _. types) (λ names a b rest g h s. tt))
+    (λ names t at rest g. type_closes names t.1 at rest g.1)) sizeof_node)
 
 -- ---- what may stand behind a run
 
@@ -595,7 +600,9 @@ tail_sound more inner inside =
           let g = e.sound names ts x s h in
           record {
             good = (number_within (expr_shape x) names postfix g.good (omega arith), let a = g.good in omega arith);
-            nested = g.nested; spelt = g.spelt; seen = g.seen;
+            nested = g.nested;
+            spelt = g.spelt;
+            seen = g.seen;
             stops = let a = over_gap (expr_ending x) (peek s.1) g.stops in omega arith;
           };
       complete = λ names x rest g n st. e.complete names x rest (let h = g.1 in tighter (expr_shape x) names postfix (omega arith) g.0) n (omega arith);
@@ -650,9 +657,9 @@ unfolding read_prefixed
 prefixed_exact more inner inside types =
     whole_exact (λ x. Image sizeof_of x ⊎ (shape_number (expr_shape x) ≤ postfix)) (expr_form prefixed) more _ (λ names x g. prefixed_is (expr_shape x) names g)
     (choose_exact (Image sizeof_of) (λ x. shape_number (expr_shape x) ≤ postfix) (expr_form prefixed) more (λ i. is_sizeof (peek i.1)) (sizeof_type more inner) (postfixed more inner)
-      (sizeof_exact more inner types) (tail_sound more inner inside)
-      (λ names x rest i g s. first_sizeof names x rest i)
-      (λ names x rest i g s. postfix_no_sizeof names x rest (tighter (expr_shape x) names postfix (omega arith) i)))
+    (sizeof_exact more inner types) (tail_sound more inner inside)
+    (λ names x rest i g s. first_sizeof names x rest i)
+    (λ names x rest i g s. postfix_no_sizeof names x rest (tighter (expr_shape x) names postfix (omega arith) i)))
 
 -- ---- a run and the operand behind it
 
@@ -660,10 +667,10 @@ sizeof_operand : (names : Names) (x : Expr) (rest : Tokens) → Image sizeof_of 
 sizeof_operand names x rest i h =
     let t = i.0 in
     subst (λ x. (expr_level x names).0 ≤ prefixed → NoPrefix names (expr_spelling x ++ rest)) i.1 (λ h.
-      let g = (sizeof_node.parts names t h).0.1 in
-      let flat : (keyword word.Sizeof t.0.0.0 ∷ (punct p.LeftParen t.0.0.1 ∷ (type_name_spelling t.0.1 ++ punct p.RightParen t.1 ∷ []))) ++ rest ≡ keyword word.Sizeof t.0.0.0 ∷ (punct p.LeftParen t.0.0.1 ∷ (type_name_spelling t.0.1 ++ (punct p.RightParen t.1 ∷ rest))) =
-            ap (λ l. keyword word.Sizeof t.0.0.0 ∷ (punct p.LeftParen t.0.0.1 ∷ l)) (append_assoc (type_name_spelling t.0.1) (punct p.RightParen t.1 ∷ []) rest) in
-      subst (NoPrefix names) (sym (ap (λ l. l ++ rest) (expr_spelling-SizeofType t.0.0.0 t.0.0.1 t.0.1 t.1) ∙ flat)) (sizeof_no_prefix names t.0.0.0 t.0.0.1 t.0.1 (punct p.RightParen t.1 ∷ rest) g)) h
+    let g = (sizeof_node.parts names t h).0.1 in
+    let flat : (keyword word.Sizeof t.0.0.0 ∷ (punct p.LeftParen t.0.0.1 ∷ (type_name_spelling t.0.1 ++ punct p.RightParen t.1 ∷ []))) ++ rest ≡ keyword word.Sizeof t.0.0.0 ∷ (punct p.LeftParen t.0.0.1 ∷ (type_name_spelling t.0.1 ++ (punct p.RightParen t.1 ∷ rest))) =
+    ap (λ l. keyword word.Sizeof t.0.0.0 ∷ (punct p.LeftParen t.0.0.1 ∷ l)) (append_assoc (type_name_spelling t.0.1) (punct p.RightParen t.1 ∷ []) rest) in
+    subst (NoPrefix names) (sym (ap (λ l. l ++ rest) (expr_spelling-SizeofType t.0.0.0 t.0.0.1 t.0.1 t.1) ∙ flat)) (sizeof_no_prefix names t.0.0.0 t.0.0.1 t.0.1 (punct p.RightParen t.1 ∷ rest) g)) h
 
 operand_by : (names : Names) (x : Expr) (rest : Tokens) → Image sizeof_of x ⊎ (shape_number (expr_shape x) ≤ postfix) → (expr_level x names).0 ≤ prefixed → NoPrefix names (expr_spelling x ++ rest)
 operand_by names x rest (inl i) h = sizeof_operand names x rest i h
@@ -753,20 +760,20 @@ run_from_stop (x ∷ xs) a rest h =
 
 run_joint : Joint run_form (λ t. with_run t.0 t.1) (expr_form cast)
 run_joint = record {
-    good = λ names t g. run_good names t.0 t.1 g;
-    split = λ names x g. run_split (expr_shape x) names g;
-    nested = λ t. run_nested t.0 t.1;
-    spelt = λ t. run_spelt t.0 t.1;
-    seen = λ names t. run_seen names t.0 t.1;
-    stop = λ names t behind rest g h. run_stop t.0 t.1 rest h;
-    from_stop = λ names t behind rest g h. run_from_stop t.0 t.1 rest h;
-  }
+  good = λ names t g. run_good names t.0 t.1 g;
+  split = λ names x g. run_split (expr_shape x) names g;
+  nested = λ t. run_nested t.0 t.1;
+  spelt = λ t. run_spelt t.0 t.1;
+  seen = λ names t. run_seen names t.0 t.1;
+  stop = λ names t behind rest g h. run_stop t.0 t.1 rest h;
+  from_stop = λ names t behind rest g h. run_from_stop t.0 t.1 rest h;
+}
 
 pub cast_exact : (more : ℕ) (inner : Inner) → InsideExpr more inner → Exact (deeper type_form) more (type_name inner) → Exact (expr_form cast) more (read_cast more inner)
 unfolding read_cast
 cast_exact more inner inside types =
     same_exact (expr_form cast) more _ (read_cast more inner) (two (many_by goes_prefix (λ _. one_prefix more inner) (λ _. ties) false) (λ run. read_prefixed more inner) with_run)
     (joint_exact run_form (λ t. with_run t.0 t.1) (expr_form cast) more _
-      (seq_exact (list prefix_items false) (λ run. expr_form prefixed) more _ (λ run. read_prefixed more inner) (list_exact prefix_items more (λ s. one_prefix more inner) (prefixes_kept more inner types) false)
-        (λ _. prefixed_exact more inner inside types)
-        (λ names run a rest g h st. run_stops run (names ++ all_added prefix_items names run) (expr_spelling a ++ rest) (operand_no_prefix (names ++ all_added prefix_items names run) a rest h))) run_joint)
+    (seq_exact (list prefix_items false) (λ run. expr_form prefixed) more _ (λ run. read_prefixed more inner) (list_exact prefix_items more (λ s. one_prefix more inner) (prefixes_kept more inner types) false)
+    (λ _. prefixed_exact more inner inside types)
+    (λ names run a rest g h st. run_stops run (names ++ all_added prefix_items names run) (expr_spelling a ++ rest) (operand_no_prefix (names ++ all_added prefix_items names run) a rest h))) run_joint)

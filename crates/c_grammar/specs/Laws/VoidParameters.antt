@@ -1,6 +1,6 @@
 -- Two tokens tell parameters that are the one word `void`.
-use Rattle.std.specs.Prelude.{◌≡◌, ℕ, Bool, true, false, not, ◌&&◌, ◌||◌, List, [], ◌∷◌, ◌++◌, map, Option, Some, None, is_some, refl}
-use Rattle.std.proofs.Common.{ap, sym, ◌∙◌, subst, cond, append_assoc, append-nil, ◌⊎◌, inl, inr}
+use Rattle.std.specs.Prelude.{◌≡◌, Bool, true, false, ◌&&◌, ◌||◌, List, [], ◌∷◌, ◌++◌, map, Option, Some, None, is_some, refl}
+use Rattle.std.proofs.Common.{ap, sym, ◌∙◌, subst, append_assoc, append-nil, ◌⊎◌, inl, inr}
 use Rattle.c_tree.specs.declared.token.Pos.{Pos}
 use Rattle.c_tree.specs.declared.token.Punct.TheVariants as p
 use Rattle.c_tree.specs.declared.token.Keyword.TheVariants as word
@@ -15,23 +15,21 @@ use Rattle.c_tree.specs.declared.specifier.TypeWord.{TypeWord}
 use Rattle.c_tree.specs.declared.specifier.TypeWord.TheVariants as type
 use Rattle.c_tree.specs.declared.declarator.Declarator.{Declarator}
 use Rattle.c_tree.specs.declared.declarator.Parameter.{Parameter as ParameterTree, out-Parameter}
-use Rattle.c_tree.specs.Spelling.Tokens.{punct, keyword, comma_at, joined, storage_word, type_word}
+use Rattle.c_tree.specs.Spelling.Tokens.{punct, keyword, comma_at, joined, storage_word}
 use Rattle.c_tree.specs.Spelling.Trees.{specifier_spelling, declarator_spelling, parameter_spelling, parameter_spelling-is, specifier_spelling-Storage, specifier_spelling-Const, specifier_spelling-Word, specifier_spelling-StructTag, specifier_spelling-Struct, specifier_spelling-EnumTag, specifier_spelling-Enum, specifier_spelling-TypedefName}
 use Rattle.c_tree.specs.Levels.Names.{Names, in_row}
-use Rattle.c_tree.specs.Levels.Facts.{SpecifierKind, Voiding, ParameterFacts, is_void as kinds_void, only_void}
-use Rattle.c_tree.specs.Levels.OfTrees.{kind_of_word}
-use Rattle.c_tree.specs.Levels.Trees.{specifier_level, declarator_level, parameter_level, parameter_level-is, specifier_level-Storage, specifier_level-Const, specifier_level-Word, specifier_level-StructTag, specifier_level-Struct, specifier_level-EnumTag, specifier_level-Enum, specifier_level-TypedefName}
-use Rattle.c_grammar.specs.Input.{Tokens, State, peek, behind, is_mark}
+use Rattle.c_tree.specs.Levels.Facts.{SpecifierKind, Voiding, is_void as kinds_void, only_void}
+use Rattle.c_tree.specs.Levels.Trees.{specifier_level, parameter_level, parameter_level-is, specifier_level-Storage, specifier_level-Const, specifier_level-Word, specifier_level-StructTag, specifier_level-Struct, specifier_level-EnumTag, specifier_level-Enum, specifier_level-TypedefName}
+use Rattle.c_grammar.specs.Input.{Tokens, peek, behind, is_mark}
 use Rattle.c_grammar.specs.Read.Nodes.{is_type, is_nothing}
 use Rattle.c_grammar.specs.Read.Inner.{begins_specifier, is_void}
 use Rattle.c_grammar.specs.Laws.Cases.{SpecifierShape, specifier_shape}
 use Rattle.c_grammar.specs.Laws.Lists.{all_good}
-use Rattle.c_grammar.specs.Laws.Behind.{both_true}
 use Rattle.c_grammar.specs.Laws.Starts.{peek_first}
 use Rattle.c_grammar.specs.Laws.Forms.{specifier_items, specifiers_form}
-use Rattle.c_grammar.specs.Laws.SpecifierStarts.{StartsSpecifier, specifier_starts}
+use Rattle.c_grammar.specs.Laws.SpecifierStarts.{specifier_starts}
 use Rattle.c_grammar.specs.Laws.DeclaratorFacts.{FirstToken, declarator_first, nothing_is, nothing_spelling}
-use Rattle.c_grammar.specs.Laws.Parameters.{parameter_form, parts_of_parameter, first_parameter, next_form, good_parts}
+use Rattle.c_grammar.specs.Laws.Parameters.{first_parameter, good_parts}
 
 -- `void` `)`
 abbrev void_seen : Tokens → Bool
@@ -117,17 +115,17 @@ by_specifiers names x xs d ts g (inr n) =
 by_specifiers names x [] d ts g (inl v) =
     subst (λ x. void_seen (((specifier_spelling x ++ []) ++ declarator_spelling d) ++ ts) ≡ ((kinds_void ((specifier_level x names).0 ∷ []) && is_nothing d) && is_mark p.RightParen (peek ts))) v.1
     (ap (λ l. void_seen ((l ++ declarator_spelling d) ++ ts)) (append-nil (specifier_spelling (specifier.Word type.Void v.0)))
-      ∙ ap void_seen (append_assoc (specifier_spelling (specifier.Word type.Void v.0)) (declarator_spelling d) ts)
-      ∙ void_then v.0 (declarator_spelling d ++ ts) ∙ nothing_then names d (is_nothing d) refl ts
-      ∙ sym (ap (λ f. (kinds_void ((f names).0 ∷ []) && is_nothing d) && is_mark p.RightParen (peek ts)) (specifier_level-Word type.Void v.0)))
+    ∙ ap void_seen (append_assoc (specifier_spelling (specifier.Word type.Void v.0)) (declarator_spelling d) ts)
+    ∙ void_then v.0 (declarator_spelling d ++ ts) ∙ nothing_then names d (is_nothing d) refl ts
+    ∙ sym (ap (λ f. (kinds_void ((f names).0 ∷ []) && is_nothing d) && is_mark p.RightParen (peek ts)) (specifier_level-Word type.Void v.0)))
 by_specifiers names x (y ∷ ys) d ts g (inl v) =
     let names1 : Names = names ++ (specifier_level x names).1 in
     let s = specifier_starts true (false || is_type x) names1 y g.1.0 in
     let tail : Tokens = joined (map specifier_spelling ys) ++ (declarator_spelling d ++ ts) in
     let two_kinds : kinds_void ((specifier_level x names).0 ∷ ((specifier_level y names1).0 ∷ (in_row (map specifier_level ys) (names1 ++ (specifier_level y names1).1)).0)) ≡ false = two_or_more (specifier_level x names).0 _ _ in
     ap void_seen (append_assoc (specifier_spelling x ++ (specifier_spelling y ++ joined (map specifier_spelling ys))) (declarator_spelling d) ts
-      ∙ append_assoc (specifier_spelling x) (specifier_spelling y ++ joined (map specifier_spelling ys)) (declarator_spelling d ++ ts)
-      ∙ ap (λ l. specifier_spelling x ++ l) (append_assoc (specifier_spelling y) (joined (map specifier_spelling ys)) (declarator_spelling d ++ ts)))
+    ∙ append_assoc (specifier_spelling x) (specifier_spelling y ++ joined (map specifier_spelling ys)) (declarator_spelling d ++ ts)
+    ∙ ap (λ l. specifier_spelling x ++ l) (append_assoc (specifier_spelling y) (joined (map specifier_spelling ys)) (declarator_spelling d ++ ts)))
     ∙ ap (λ x. void_seen (specifier_spelling x ++ (specifier_spelling y ++ tail))) (sym v.1)
     ∙ void_then v.0 (specifier_spelling y ++ tail)
     ∙ ap (λ l. is_mark p.RightParen (peek (l ++ tail))) s.spelt ∙ ap (is_mark p.RightParen) (peek_first s.first (s.others ++ tail)) ∙ specifier_no_close true _ names1 s.first.kind s.good
@@ -172,6 +170,6 @@ void_is names x [] at rest g commas =
 void_is names x (y ∷ ys) at rest g commas =
     let tail : Tokens = joined (map parameter_spelling ys) ++ (punct p.RightParen at ∷ rest) in
     ap void_seen (append_assoc (parameter_spelling x) (parameter_spelling y ++ joined (map parameter_spelling ys)) (punct p.RightParen at ∷ rest)
-      ∙ ap (λ l. parameter_spelling x ++ l) (append_assoc (parameter_spelling y) (joined (map parameter_spelling ys)) (punct p.RightParen at ∷ rest)))
+    ∙ ap (λ l. parameter_spelling x ++ l) (append_assoc (parameter_spelling y) (joined (map parameter_spelling ys)) (punct p.RightParen at ∷ rest)))
     ∙ first_void names x (parameter_spelling y ++ tail) g
     ∙ ap (λ b. (parameter_level x names).0.is_void && b) (next_no_close y (out-Parameter y).comma tail refl (commas y ys refl)) ∙ and_no (parameter_level x names).0.is_void
