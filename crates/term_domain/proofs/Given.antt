@@ -1,6 +1,6 @@
 -- What the calls that answer a term promise of it.
-use Rattle.std.proofs.Common.{rules, ◌≡◌, ◌≢◌, refl, sym, ◌∙◌, ap, subst, arith, ℕ, ◌<◌, ◌^◌, inl, inr, ◌⊎◌, List, length, Option, Some, None}
-use Rattle.std.specs.Prelude.{negsuc, pos, ◌≤ℤ◌, ◌-◌, slice_get}
+use Rattle.std.proofs.Common.{rules, ◌≡◌, ◌≢◌, refl, sym, ◌∙◌, ap, subst, arith, ℕ, ◌<◌, ◌^◌, inl, inr, ◌⊎◌, List, length, Some, None}
+use Rattle.std.specs.Prelude.{negsuc, pos, ◌≤ℤ◌, ◌-◌}
 use Rattle.std.proofs.lemmas.Int.{ints, to_z_pos}
 use Rattle.std.specs.Int.{w32}
 use Rattle.term_form.specs.Interval.{signed}
@@ -21,12 +21,11 @@ use Rattle.term_form.specs.declared.facts.Facts.{Facts}
 use Rattle.term_form.specs.Meets.{Meets}
 use Rattle.term_form.specs.Narrower.{any_word}
 use Rattle.term_form.proofs.Widths.{any_meets}
-use Rattle.domain_laws.specs.World.{World, IsByteOrEnd, IsOfRoot, with_term, word_of_term}
+use Rattle.domain_laws.specs.World.{World, IsByteOrEnd, IsOfRoot, with_term}
 use Rattle.domain_laws.specs.Promises.{IsObject, IsOverScope, NodeSays}
 use Rattle.domain_laws.specs.Laws.Worlds.{IsOfRoot-inside, MayLoad-inside, IsAtHome-one}
-use Rattle.term_domain.specs.declared.key.Key.{Key}
 use Rattle.term_domain.specs.Keys.{own_place}
-use Rattle.term_domain.specs.Rows.{Rows, node_in, facts_in, node_at, facts_at, IsFound, IsAdded, IsNew, IsShared, TableStands, facts_of_root}
+use Rattle.term_domain.specs.Rows.{Rows, node_in, facts_in, node_at, facts_at, IsNew, IsShared, TableStands, facts_of_root}
 use Rattle.term_domain.specs.Laws.{MayBe, row_behind, stands-push, stands-again}
 
 -- ---- the node and the facts of a new term

@@ -1,5 +1,5 @@
 -- What each change of the table keeps, in the words of the trait.
-use Rattle.std.proofs.Common.{◌≡◌, ◌≢◌, refl, sym, ◌∙◌, ap, subst, arith, ℕ, zero, suc, ◌+◌, ◌<◌, ◌≤◌, inl, inr, ◌⊎◌, List, [], ◌∷◌, ◌++◌, length, take, Option, Some, None, Result, Ok, Err, IfOk, OnOk}
+use Rattle.std.proofs.Common.{◌≡◌, refl, sym, ◌∙◌, ap, subst, arith, ℕ, ◌<◌, inl, inr, [], ◌∷◌, ◌++◌, length, take, Result, Ok, Err, IfOk, OnOk}
 use Rattle.std.specs.Prelude.{slice_get}
 use Rattle.std.proofs.lemmas.Grind.{common_steps}
 use Rattle.word_ops.specs.declared.operation.Width.{Width}
@@ -12,11 +12,9 @@ use Rattle.scope_map.specs.Scopes.{Marked}
 use Rattle.scope_map.proofs.Marks.{Marked-append}
 use Rattle.domain_laws.specs.World.{World}
 use Rattle.domain_laws.specs.Promises.{Keeps, Extends, Adds, Same, Brings, Restores}
-use Rattle.term_domain.specs.declared.key.Key.{Key}
 use Rattle.term_domain.specs.declared.terms.Terms.{Terms}
 use Rattle.term_domain.specs.declared.terms.TermMark.{TermMark}
 use Rattle.term_domain.specs.Rows.{Rows, node_in, facts_in, node_at, facts_at, IsPushed, IsNew, IsShared, TableStands}
-use Rattle.term_domain.specs.Laws.{stands-take}
 
 -- ---- what the trait speaks of
 

@@ -1,5 +1,5 @@
 -- Equal keys.
-use Rattle.std.proofs.Common.{rules, ◌≡◌, refl, ap, ℕ, Bool, true, false, ◌&&◌, Option, Some, None}
+use Rattle.std.proofs.Common.{rules, ◌≡◌, refl, ℕ, Bool, true, false, ◌&&◌, Option, Some, None}
 use Rattle.word_ops.specs.Laws.Lists.{and_both}
 use Rattle.term_form.specs.declared.term.Node.{Node}
 use Rattle.term_domain.specs.declared.key.Key.{Key}

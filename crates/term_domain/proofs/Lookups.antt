@@ -1,5 +1,5 @@
 -- What a look-up by key finds in a table.
-use Rattle.std.proofs.Common.{rules, ◌≡◌, ◌≢◌, refl, sym, ◌∙◌, ap, subst, arith, ℕ, zero, suc, ◌<◌, ◌+◌, Bool, true, false, true≢false, ◌⊎◌, inl, inr, List, [], ◌∷◌, ◌++◌, length, get_or, take, position, is_some, Option, Some, None}
+use Rattle.std.proofs.Common.{◌≡◌, ◌≢◌, refl, sym, ◌∙◌, ap, subst, arith, ℕ, zero, suc, ◌<◌, Bool, true, false, true≢false, ◌⊎◌, inl, inr, [], ◌∷◌, ◌++◌, length, get_or, position, is_some, Option, Some, None}
 use Rattle.std.specs.Prelude.{slice_get, IfSome}
 use Rattle.std.specs.Map.{keys_of, lookup}
 use Rattle.std.proofs.lemmas.Map.{NonePasses, lookup-none, none_passes_from_lookup}
@@ -27,12 +27,6 @@ none-some x e = cc
 
 same_Some : {A : Type 0} (x y : A) → Some x ≡ Some y → x ≡ y
 same_Some x y e = cc
-
-slice_get-take : {A : Type 0} (xs : List A) (n i : ℕ) (x : A) → slice_get (take n xs) i ≡ Some x → slice_get xs i ≡ Some x
-slice_get-take xs zero i x e = absurd (none-some x e)
-slice_get-take [] (suc n) i x e = e
-slice_get-take (y ∷ xs) (suc n) zero x e = e
-slice_get-take (y ∷ xs) (suc n) (suc i) x e = slice_get-take xs n i x e
 
 -- ---- rows whose keys pass a test
 
@@ -182,10 +176,6 @@ IsTable-push rows key facts h own older = record {
     | inr new ↦ subst (λ (r : Key × Facts). IsOverScope (λ y. y < x) r.0.node) new.1 (subst (λ n. IsOverScope (λ y. y < n) key.node) (sym new.0) older)
   ];
 }
-
--- the table of the first rows
-pub IsTable-take : (rows : Rows) (count : ℕ) → IsTable rows → IsTable (take count rows)
-IsTable-take rows count h = record { keyed = λ x row e. h.keyed x row (slice_get-take rows count x row e); older = λ x row e. h.older x row (slice_get-take rows count x row e) }
 
 -- ---- the same of a table that is seen as other rows
 

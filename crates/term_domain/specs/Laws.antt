@@ -1,32 +1,23 @@
 -- Laws of tables: which worlds a table stands for after each change.
-use Rattle.std.proofs.Common.{◌≡◌, ◌≢◌, refl, sym, ◌∙◌, ap, subst, arith, ℕ, zero, suc, ◌+◌, ◌<◌, ◌^◌, ◌≤ℤ◌, negsuc, pos, inl, inr, ◌⊎◌, List, [], ◌∷◌, ◌++◌, length, take, Option, Some, None}
-use Rattle.std.specs.Prelude.{◌-◌, slice_get}
+use Rattle.std.proofs.Common.{◌≡◌, refl, sym, ◌∙◌, ap, subst, arith, ℕ, zero, suc, ◌+◌, ◌<◌, inl, inr, ◌⊎◌, [], ◌∷◌, ◌++◌, length, take, Option, Some}
+use Rattle.std.specs.Prelude.{slice_get}
 use Rattle.std.proofs.lemmas.Grind.{common_steps}
-use Rattle.std.proofs.lemmas.Int.{ints}
 use Rattle.word_ops.specs.declared.operation.Width.{Width}
-use Rattle.word_ops.specs.declared.operation.Op.{Op}
-use Rattle.word_ops.specs.Store.{Value, Number, Pointer, Cell, Store}
-use Rattle.word_ops.specs.Access.{decode, cells_at, write}
-use Rattle.word_ops.specs.Values.{value_of_operation}
+use Rattle.word_ops.specs.Store.{Value, Store}
+use Rattle.word_ops.specs.Access.{write}
 use Rattle.word_ops.specs.Addresses.{word_of_value, IsValueIn}
-use Rattle.word_ops.specs.Changes.{SameRegions, Fades, MayLoad, IsInRangeUnless}
+use Rattle.word_ops.specs.Changes.{SameRegions, Fades}
 use Rattle.word_ops.specs.Laws.Lists.{slice_get-append, slice_get-append_behind}
-use Rattle.word_ops.specs.Laws.Words.{word_of_value-small, operation-in}
 use Rattle.word_ops.specs.Laws.Values.{IsValueIn-same}
 use Rattle.term_form.specs.declared.term.Term.{Term}
-use Rattle.term_form.specs.declared.term.Root.{Root}
-use Rattle.term_form.specs.declared.term.Root.TheVariants as roots
 use Rattle.term_form.specs.declared.term.Node.{Node}
-use Rattle.term_form.specs.declared.term.Node.TheVariants as nodes
 use Rattle.term_form.specs.declared.facts.Facts.{Facts}
 use Rattle.term_form.specs.Meets.{Meets}
-use Rattle.term_form.specs.Narrower.{only_word, any_word}
 use Rattle.term_form.specs.Walk.{Values, with_value}
-use Rattle.term_form.proofs.Widths.{only_meets, any_meets}
 use Rattle.scope_map.specs.Scopes.{Marked}
-use Rattle.domain_laws.specs.World.{World, IsWorld, IsByteOrEnd, IsOfRoot, with_values, with_store, with_term, word_of_term}
+use Rattle.domain_laws.specs.World.{World, IsWorld, with_values, with_store, with_term}
 use Rattle.domain_laws.specs.Promises.{IsOverScope, NodeSays}
-use Rattle.domain_laws.specs.Laws.Worlds.{IsWorld-write, IsWorld-fades, SameRegions-write, SameRegions-fades, IsOfRoot-inside, MayLoad-inside, NodeSays-local, NodeSays-store, IsOverScope-map, IsAtHome-one, with_value-here, with_value-other, with_value-same, word_of_term-store}
+use Rattle.domain_laws.specs.Laws.Worlds.{IsWorld-write, IsWorld-fades, SameRegions-write, SameRegions-fades, NodeSays-local, NodeSays-store, IsOverScope-map, with_value-here, with_value-other, with_value-same, word_of_term-store}
 use Rattle.term_domain.specs.declared.key.Key.{Key}
 use Rattle.term_domain.specs.Rows.{Rows, node_in, facts_in, node_at, facts_at, IsPushed, RowStands, TableStands}
 

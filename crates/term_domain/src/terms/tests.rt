@@ -1,4 +1,5 @@
 use super::*;
+use std::process::Abort;
 use std::test::Fail;
 
 #[test]
@@ -182,5 +183,29 @@ fn bytes_lie_from_the_end_of_input_to_255(rt: HostRuntime) -> Result<(), Fail> {
         dom.widen(&signed(0, 10), byte, Widening::Extreme),
         anything()
     );
+    Ok(())
+}
+
+// One term more, the constant of its own number, where want of memory may come once.
+fn grow(rt: &impl Abort, dom: &mut Terms, word: u32) -> Result<(), Memory> {
+    let next = Term(word);
+    match dom.konst(word) {
+        Ok(term) => assert_eq!(rt; term, next),
+        Err(_) => {
+            assert!(rt; !dom.in_scope(next));
+            assert!(rt; word == 0 || dom.in_scope(Term(word.saturating_sub(1))));
+            assert_eq!(rt; dom.konst(word)?, next);
+        }
+    }
+    Ok(())
+}
+
+#[test]
+fn want_of_memory_changes_nothing(rt: HostRuntime) -> Result<(), Fail> {
+    let mut dom = Terms::new(rt.alloc());
+    for word in 0..100u32 {
+        grow(&rt, &mut dom, word)?;
+    }
+    assert!(rt; dom.in_scope(Term(99)) && !dom.in_scope(Term(100)));
     Ok(())
 }

@@ -1,4 +1,3 @@
-use Rattle.std.proofs.Common.{◌≡◌}
 use Rattle.std.proofs.lemmas.Result.{on_err_weaker, IfOk-weaker}
 use Rattle.term_form.specs.declared.term.Node.TheVariants.{Root}
 use Rattle.domain_laws.specs.World.{IsOfRoot}
