@@ -56,7 +56,7 @@ placed-between tags e to [] h below held = below
 placed-between tags e to (m ∷ ms) h below held =
     let rest : end_behind tags e m ≤ end_of tags (end_behind tags e m) ms = end_of-above tags (end_behind tags e m) ms in
     let told : capped (start_behind tags e m) ≡ start_behind tags e m =
-        capped_low (start_behind tags e m) (omega (arith, rest, below, held)) in
+    capped_low (start_behind tags e m) (omega (arith, rest, below, held)) in
     rw told
     (next_multiple-above e (strictness_of tags m.1), next_multiple-multiple e (strictness_of tags m.1) (is_alignment-positive (strictness_of tags m.1) (strictness-aligned tags m.1 h)), placed-between tags (end_behind tags e m) to ms h below held)
 
@@ -77,5 +77,5 @@ pub layout-between : (tags : Structs) (ms : List Declared) → are_aligned tags 
     (layout tags ms).size < 2 ^ 64 - 1 → LieBetween tags 0 (layout tags ms).size (layout tags ms).members
 layout-between tags ms h below =
     let above : end_of tags 0 ms ≤ next_multiple (end_of tags 0 ms) (strictest tags ms) =
-        next_multiple-above (end_of tags 0 ms) (strictest tags ms) in
+    next_multiple-above (end_of tags 0 ms) (strictest tags ms) in
     placed-between tags 0 (capped (next_multiple (end_of tags 0 ms) (strictest tags ms))) ms h (omega (arith, above, below)) (omega (arith, below))

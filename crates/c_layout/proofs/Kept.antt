@@ -89,9 +89,9 @@ complete-kept old new t k h =
     let ds = (out-CType t).derived in
     let b = (out-CType t).base in
     let size : is_some (sized (base_size old b) ds) ≡ true =
-        sized-complete ds (base_size old b) ∙ ap (λ c. is_complete_by c ds) (base_size-complete old b) ∙ h in
+    sized-complete ds (base_size old b) ∙ ap (λ c. is_complete_by c ds) (base_size-complete old b) ∙ h in
     let alignment : is_some (aligned (base_alignment old b) ds) ≡ true =
-        aligned-complete ds (base_alignment old b) ∙ ap (λ c. is_complete_by c ds) (base_alignment-complete old b) ∙ h in
+    aligned-complete ds (base_alignment old b) ∙ ap (λ c. is_complete_by c ds) (base_alignment-complete old b) ∙ h in
     (ap capped_size (stays (sized (base_size old b) ds) (sized (base_size new b) ds) size (sized-grows ds (base_size old b) (base_size new b) (base_size-grows old new b k))), stays (aligned (base_alignment old b) ds) (aligned (base_alignment new b) ds) alignment (aligned-grows ds (base_alignment old b) (base_alignment new b) (base_alignment-grows old new b k)))
 
 -- ---- declaring and completing

@@ -114,7 +114,7 @@ IsEarlier g t p = (i : ℕ) × (i < p.item) × IsDefinedAt g t (record { block =
 
 -- the record of the term stands in an ancestor of the block
 abbrev pub IsAbove : Graph → (term : ℕ) → Place → Type 0
-IsAbove g t p = (n i b : ℕ) × (ancestor_of g (suc n) p.block ≡ Some b) × IsDefinedAt g t (record { block = b; item = i })
+IsAbove g t p = (n i b : ℕ) × (ancestor_of g (n + 1) p.block ≡ Some b) × IsDefinedAt g t (record { block = b; item = i })
 
 -- the term may be used at the place
 abbrev pub IsInScope : Graph → (term : ℕ) → Place → Type 0

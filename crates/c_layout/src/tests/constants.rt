@@ -43,7 +43,11 @@ fn pair(alloc: Global, left: TExpr, right: TExpr) -> Result<Items<TExpr>, Fail> 
 fn applied(alloc: Global, first: TExpr, step: Step) -> Result<TExpr, Fail> {
     let mut steps = Vec::new(alloc);
     steps.push(step)?;
-    Ok(TExpr::Applied(int(alloc), Boxed::new(alloc, first)?, Items::from_vec(steps)))
+    Ok(TExpr::Applied(
+        int(alloc),
+        Boxed::new(alloc, first)?,
+        Items::from_vec(steps),
+    ))
 }
 
 fn choose(alloc: Global, condition: TExpr, chosen: TExpr, last: TExpr) -> Result<TExpr, Fail> {
@@ -55,7 +59,11 @@ fn choose(alloc: Global, condition: TExpr, chosen: TExpr, last: TExpr) -> Result
 fn assign(alloc: Global, change: Change, value: TExpr) -> Result<TExpr, Fail> {
     let mut targets = Vec::new(alloc);
     targets.push(Target::Variable(0, change))?;
-    Ok(TExpr::Assign(int(alloc), Items::from_vec(targets), Boxed::new(alloc, value)?))
+    Ok(TExpr::Assign(
+        int(alloc),
+        Items::from_vec(targets),
+        Boxed::new(alloc, value)?,
+    ))
 }
 
 fn comma(alloc: Global, dropped: TExpr, last: TExpr) -> Result<TExpr, Fail> {
@@ -347,14 +355,21 @@ static UNARY: [(Unary, u32, Option<u32>); 21] = [
 ];
 
 const N0: Item = Item::Is(Primary::Number(0));
+
 const N1: Item = Item::Is(Primary::Number(1));
+
 const N2: Item = Item::Is(Primary::Number(2));
+
 const N3: Item = Item::Is(Primary::Number(3));
+
 const N5: Item = Item::Is(Primary::Number(5));
 /// With 1 and 0 before it undefined.
 const DIVIDE: Item = Item::Binary(Arithmetic::Word(Op::Divs));
+
 const TIMES: Item = Item::Binary(Arithmetic::Word(Op::Muls));
+
 const VARIABLE: Item = Item::Is(Primary::Variable(Scalar::Integer(Width::Word), 0));
+
 const CHANGE: Change = Change {
     scalar: Scalar::Integer(Width::Word),
     operator: None,
@@ -383,7 +398,17 @@ static TREES: [(&[Item], Option<u32>); 37] = [
     // an operator evaluates both operands
     (&[N0, N1, N0, DIVIDE, TIMES], None),
     (&[N1, N0, DIVIDE, N0, TIMES], None),
-    (&[N2, N3, TIMES, N5, Item::Binary(Arithmetic::Word(Op::Subs)), Item::Unary(Unary::Not)], Some(0)),
+    (
+        &[
+            N2,
+            N3,
+            TIMES,
+            N5,
+            Item::Binary(Arithmetic::Word(Op::Subs)),
+            Item::Unary(Unary::Not),
+        ],
+        Some(0),
+    ),
     // forms that no constant has, evaluated or not
     (&[VARIABLE], None),
     (&[N0, VARIABLE, Item::And], None),
@@ -408,7 +433,11 @@ static TREES: [(&[Item], Option<u32>); 37] = [
 #[test]
 fn binary_operators_are_folded(rt: HostRuntime) -> Result<(), Fail> {
     for (operator, a, b, value) in BINARY {
-        let items = [Item::Is(Primary::Number(a)), Item::Is(Primary::Number(b)), Item::Binary(operator)];
+        let items = [
+            Item::Is(Primary::Number(a)),
+            Item::Is(Primary::Number(b)),
+            Item::Binary(operator),
+        ];
         let e = tree(rt.alloc(), &items)?;
         assert_eq!(rt; constant(&e), value, "at {operator:?} {a} {b}");
     }
@@ -418,7 +447,10 @@ fn binary_operators_are_folded(rt: HostRuntime) -> Result<(), Fail> {
 #[test]
 fn unary_operators_are_folded(rt: HostRuntime) -> Result<(), Fail> {
     for (operator, a, value) in UNARY {
-        let e = tree(rt.alloc(), &[Item::Is(Primary::Number(a)), Item::Unary(operator)])?;
+        let e = tree(
+            rt.alloc(),
+            &[Item::Is(Primary::Number(a)), Item::Unary(operator)],
+        )?;
         assert_eq!(rt; constant(&e), value, "at {operator:?} {a}");
     }
     Ok(())

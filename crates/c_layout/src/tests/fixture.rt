@@ -62,7 +62,12 @@ fn members(alloc: Global, list: &[Member]) -> Result<Vec<(Text, CType)>, Fail> {
 }
 
 /// A new structure type of these members.
-pub fn structure<R: Abort>(rt: &R, alloc: Global, tags: &mut Tags, list: &[Member]) -> Result<u32, Fail> {
+pub fn structure<R: Abort>(
+    rt: &R,
+    alloc: Global,
+    tags: &mut Tags,
+    list: &[Member],
+) -> Result<u32, Fail> {
     let members = members(alloc, list)?;
     let tag = tags.declare()?;
     assert!(rt; !members.is_empty());

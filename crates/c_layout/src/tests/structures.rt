@@ -8,8 +8,22 @@ use std::test::Fail;
 type Row = (&'static [Member], u64, u64, &'static [u64]);
 
 static ROWS: [Row; 14] = [
-    (&[(b"a", Base::Char, &[]), (b"b", Base::Int, &[])], 8, 4, &[0, 4]),
-    (&[(b"a", Base::Char, &[]), (b"b", Base::Short, &[]), (b"c", Base::Char, &[])], 6, 2, &[0, 2, 4]),
+    (
+        &[(b"a", Base::Char, &[]), (b"b", Base::Int, &[])],
+        8,
+        4,
+        &[0, 4],
+    ),
+    (
+        &[
+            (b"a", Base::Char, &[]),
+            (b"b", Base::Short, &[]),
+            (b"c", Base::Char, &[]),
+        ],
+        6,
+        2,
+        &[0, 2, 4],
+    ),
     (
         &[
             (b"a", Base::Char, &[Made::Array(3)]),
@@ -21,7 +35,12 @@ static ROWS: [Row; 14] = [
         4,
         &[0, 4, 8, 16],
     ),
-    (&[(b"a", Base::Short, &[]), (b"b", Base::Char, &[])], 4, 2, &[0, 2]),
+    (
+        &[(b"a", Base::Short, &[]), (b"b", Base::Char, &[])],
+        4,
+        2,
+        &[0, 2],
+    ),
     (&[(b"a", Base::Char, &[Made::Array(5)])], 5, 1, &[0]),
     (
         &[
@@ -57,8 +76,21 @@ static ROWS: [Row; 14] = [
         4,
         &[0, 4, 8, 20],
     ),
-    (&[(b"a", Base::Unsigned, &[]), (b"b", Base::UnsignedShort, &[Made::Array(3)])], 12, 4, &[0, 4]),
-    (&[(b"c", Base::Char, &[]), (b"s", Base::Short, &[])], 4, 2, &[0, 2]),
+    (
+        &[
+            (b"a", Base::Unsigned, &[]),
+            (b"b", Base::UnsignedShort, &[Made::Array(3)]),
+        ],
+        12,
+        4,
+        &[0, 4],
+    ),
+    (
+        &[(b"c", Base::Char, &[]), (b"s", Base::Short, &[])],
+        4,
+        2,
+        &[0, 2],
+    ),
     (
         &[
             (b"a", Base::Char, &[]),

@@ -19,10 +19,25 @@ static ROWS: [Row; 33] = [
     (Base::Long, &[], Some(4), Some(4)),
     (Base::UnsignedLong, &[], Some(4), Some(4)),
     (Base::Enum(7), &[], Some(4), Some(4)),
-    (Base::Char, &[Made::Pointer, Made::Array(7)], Some(28), Some(4)),
-    (Base::Int, &[Made::Array(5), Made::Array(3), Made::Array(2)], Some(120), Some(4)),
+    (
+        Base::Char,
+        &[Made::Pointer, Made::Array(7)],
+        Some(28),
+        Some(4),
+    ),
+    (
+        Base::Int,
+        &[Made::Array(5), Made::Array(3), Made::Array(2)],
+        Some(120),
+        Some(4),
+    ),
     (Base::Short, &[Made::Array(9)], Some(18), Some(2)),
-    (Base::Char, &[Made::Array(9), Made::Pointer], Some(4), Some(4)),
+    (
+        Base::Char,
+        &[Made::Array(9), Made::Pointer],
+        Some(4),
+        Some(4),
+    ),
     // incomplete types, and functions
     (Base::Struct(0), &[], None, None),
     (Base::Struct(1), &[], None, None),
@@ -36,13 +51,43 @@ static ROWS: [Row; 33] = [
     (Base::Void, &[Made::Pointer], Some(4), Some(4)),
     (Base::Struct(0), &[Made::Pointer], Some(4), Some(4)),
     (Base::Int, &[Made::Open, Made::Pointer], Some(4), Some(4)),
-    (Base::Int, &[Made::Function, Made::Pointer], Some(4), Some(4)),
+    (
+        Base::Int,
+        &[Made::Function, Made::Pointer],
+        Some(4),
+        Some(4),
+    ),
     // what 64 bits do not hold
-    (Base::Char, &[Made::Array(u64::MAX)], Some(u64::MAX), Some(1)),
-    (Base::Char, &[Made::Array(0x2_0000_0000), Made::Array(0x2_0000_0000)], Some(u64::MAX), Some(1)),
-    (Base::Short, &[Made::Array(0x4000_0000_0000_0000)], Some(0x8000_0000_0000_0000), Some(2)),
-    (Base::Short, &[Made::Array(0x8000_0000_0000_0000)], Some(u64::MAX), Some(2)),
-    (Base::Int, &[Made::Array(0x8000_0000_0000_0000), Made::Array(0)], Some(0), Some(4)),
+    (
+        Base::Char,
+        &[Made::Array(u64::MAX)],
+        Some(u64::MAX),
+        Some(1),
+    ),
+    (
+        Base::Char,
+        &[Made::Array(0x2_0000_0000), Made::Array(0x2_0000_0000)],
+        Some(u64::MAX),
+        Some(1),
+    ),
+    (
+        Base::Short,
+        &[Made::Array(0x4000_0000_0000_0000)],
+        Some(0x8000_0000_0000_0000),
+        Some(2),
+    ),
+    (
+        Base::Short,
+        &[Made::Array(0x8000_0000_0000_0000)],
+        Some(u64::MAX),
+        Some(2),
+    ),
+    (
+        Base::Int,
+        &[Made::Array(0x8000_0000_0000_0000), Made::Array(0)],
+        Some(0),
+        Some(4),
+    ),
 ];
 
 #[test]
