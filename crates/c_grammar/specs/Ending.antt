@@ -1,3 +1,0 @@
--- How a tree ends.
-pub mod OfTrees
-pub mod Trees
