@@ -1,0 +1,3 @@
+-- How a tree ends.
+pub mod OfTrees
+pub mod Trees
