@@ -84,54 +84,44 @@ def write(path, lines):
     file.write_text("\n".join(line for line in kept if line is not None) + "\n")
 
 
+def each_node(kind, variants, before, claim):
+    """A line for each kind of node: its name, and the claim of it for all its parts."""
+    lines = []
+    for variant, parts in variants:
+        binders = "".join(f" ({part} : {part_type(what)})" for part, what in parts)
+        values = "".join(f" {part}" for part, _ in parts)
+        node = f"({snake(kind)}.{variant}{values})" if parts else f"{snake(kind)}.{variant}"
+        arrow = f"{binders} → " if parts else " "
+        lines.append(f"  {before}{snake(variant)} :{arrow}{claim} {node}")
+    return lines
+
+
 def cases():
     out = [GENERATED, "-- A tree of an enum is one of its kinds of node: what is shown of each kind holds of every tree."]
     out += ["use Rattle.std.specs.Prelude.{◌≡◌, ℕ, List, Option}", "use Rattle.std.proofs.Common.{sym, ◌∙◌, subst}"]
-    for leaf in TABLE["leaf_names"](TREE):
-        out.append(f"use Rattle.c_tree.specs.declared.{TABLE['place'](leaf)}.{leaf}.{{{leaf}}}")
-    for kind, (file, shape, _) in TREE.items():
-        own = f"Rattle.c_tree.specs.declared.{file}.{kind}"
-        if shape == "enum":
-            out.append(f"use {own}.{{{kind}, out-{kind}, roll-{kind}, roll-out-{kind}}}")
-            out.append(f"use {own}.TheVariants as {snake(kind)}")
-        else:
-            out.append(f"use {own}.{{{kind}}}")
+    out += TABLE["declared_uses"](TREE, ["out-", "roll-", "roll-out-"], [])
     layers = [kind for kind in TREE if TREE[kind][1] == "enum"]
     out.append(f"use {AT}.TheOpen.{{{', '.join(kind + '-F' for kind in layers)}}}")
     out.append(f"use Rattle.c_tree.specs.Layers.{{{', '.join(kind + 'Layer' for kind in layers)}}}")
     for kind in layers:
         variants = TREE[kind][2]
         out += ["", f"pub record {kind}Cases (P : {kind} → Type 0) : Type 0 where"]
-        for variant, parts in variants:
-            binders = "".join(f" ({part} : {part_type(what)})" for part, what in parts)
-            values = "".join(f" {part}" for part, _ in parts)
-            node = f"({snake(kind)}.{variant}{values})" if parts else f"{snake(kind)}.{variant}"
-            arrow = f"{binders} → " if parts else " "
-            out.append(f"  pub {field(variant)} :{arrow}P {node}")
+        out += each_node(kind, variants, "pub ", "P")
         out += ["", f"by_{snake(kind)} : (P : {kind} → Type 0) → {kind}Cases P → (x : {kind}) (node : {kind}Layer) → roll-{kind} node ≡ x → P x"]
         for variant, parts in variants:
             values = "".join(f" {part}" for part, _ in parts)
             node = f"({kind}-F.{variant}{values})" if parts else f"{kind}-F.{variant}"
             rolls = f"({snake(kind)}.rolls-{variant}{values})" if parts else f"{snake(kind)}.rolls-{variant}"
-            shown = f"(c.{field(variant)}{values})" if parts else f"c.{field(variant)}"
+            shown = f"(c.{snake(variant)}{values})" if parts else f"c.{snake(variant)}"
             out.append(f"by_{snake(kind)} P c x {node} r = subst P (sym {rolls} ∙ r) {shown}")
         out += ["", f"pub {snake(kind)}_cases : (P : {kind} → Type 0) → {kind}Cases P → (x : {kind}) → P x"]
         out.append(f"{snake(kind)}_cases P c x = by_{snake(kind)} P c x (out-{kind} x) (roll-out-{kind} x)")
         out += ["", f"-- which kind of node the tree is", f"pub data {kind}Shape : {kind} → Type 0 where"]
-        for variant, parts in variants:
-            binders = "".join(f" ({part} : {part_type(what)})" for part, what in parts)
-            values = "".join(f" {part}" for part, _ in parts)
-            node = f"({snake(kind)}.{variant}{values})" if parts else f"{snake(kind)}.{variant}"
-            arrow = f"{binders} → " if parts else " "
-            out.append(f"  a_{field(variant)} :{arrow}{kind}Shape {node}")
+        out += each_node(kind, variants, "a_", f"{kind}Shape")
         out += ["", f"pub {snake(kind)}_shape : (x : {kind}) → {kind}Shape x"]
-        shapes = "; ".join(f"{field(variant)} = {'λ' + ''.join(' ' + part for part, _ in parts) + '. ' if parts else ''}{kind}Shape.a_{field(variant)}{''.join(' ' + part for part, _ in parts)}" for variant, parts in variants)
+        shapes = "; ".join(f"{snake(variant)} = {'λ' + ''.join(' ' + part for part, _ in parts) + '. ' if parts else ''}{kind}Shape.a_{snake(variant)}{''.join(' ' + part for part, _ in parts)}" for variant, parts in variants)
         out.append(f"{snake(kind)}_shape = {snake(kind)}_cases {kind}Shape (record {{ {shapes} }})")
     return out
-
-
-def field(variant):
-    return snake(variant)
 
 
 def endings():

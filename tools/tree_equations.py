@@ -192,19 +192,23 @@ def leaf_names(cycle):
     return sorted(names - set(cycle))
 
 
+def declared_uses(cycle, of_enum, of_struct):
+    """The imports of a cycle's types: each with the words that begin so, and the variants of its enums."""
+    lines = [f"use Rattle.c_tree.specs.declared.{place(kind)}.{kind}.{{{kind}}}" for kind in leaf_names(cycle)]
+    for kind, (file, shape, _) in cycle.items():
+        own = f"Rattle.c_tree.specs.declared.{file}.{kind}"
+        words = of_enum if shape == "enum" else of_struct
+        lines.append(f"use {own}.{{{', '.join([kind] + [word + kind for word in words])}}}")
+        if shape == "enum":
+            lines.append(f"use {own}.TheVariants as {snake(kind)}")
+    return lines
+
+
 def uses(cycle):
     head = next(iter(cycle))
     at = f"Rattle.c_tree.specs.declared.{place(head)}.{head}"
     lines = ["use Rattle.std.specs.Prelude.{◌≡◌, ℕ, Bool, List, Option, map}", "use Rattle.std.proofs.Common.{ap, sym, ◌∙◌}"]
-    for kind in leaf_names(cycle):
-        lines.append(f"use Rattle.c_tree.specs.declared.{place(kind)}.{kind}.{{{kind}}}")
-    for kind, (file, shape, _) in cycle.items():
-        own = f"Rattle.c_tree.specs.declared.{file}.{kind}"
-        if shape == "enum":
-            lines.append(f"use {own}.{{{kind}, roll-{kind}}}")
-            lines.append(f"use {own}.TheVariants as {snake(kind)}")
-        else:
-            lines.append(f"use {own}.{{{kind}, out-{kind}, roll-{kind}, roll-out-{kind}}}")
+    lines += declared_uses(cycle, ["roll-"], ["out-", "roll-", "roll-out-"])
     lines.append(f"use {at}.TheOpen.{{{', '.join(kind + '-F' for kind in cycle)}}}")
     words = [f"{word}-{kind}" for kind in cycle for word in ("fold", "fold-roll", "map")]
     lines.append(f"use Rattle.c_tree.specs.Layers.{{{', '.join(kind + 'Layer' for kind in cycle)}}}")
