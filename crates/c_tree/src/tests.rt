@@ -2,6 +2,7 @@ mod declarations;
 mod shown;
 mod statements;
 mod trees;
+mod word_count;
 
 use crate::tests::shown::shown;
 use crate::tests::trees::unit;
@@ -13,6 +14,15 @@ use word_ops::Items;
 fn spelt(alloc: Global, items: Items<External>) -> Result<String, Fail> {
     let kinds = spell(alloc, &unit(items))?;
     shown(alloc, kinds.as_slice())
+}
+
+#[test]
+fn a_unit_is_spelt_as_its_source(rt: HostRuntime) -> Result<(), Fail> {
+    let mut items = Items::new(rt.alloc());
+    word_count::word_count(rt.alloc(), &mut items)?;
+    let text = spelt(rt.alloc(), items)?;
+    assert_eq!(rt; text.as_str(), word_count::SOURCE);
+    Ok(())
 }
 
 #[test]

@@ -156,18 +156,27 @@ fn from_zero(alloc: Global) -> Result<ForHead, Fail> {
     Ok(ForHead::Declaration(declaration(words(alloc, [TypeWord::Int])?, i)))
 }
 
-// `( int i = 0 ; i < 3 ; i += 1 )`
-fn three_times(alloc: Global) -> Result<ForControl, Fail> {
-    let head = from_zero(alloc)?;
-    let test = binary(
+// `i < 3`
+fn below_three(alloc: Global) -> Result<Expr, Fail> {
+    binary(
         alloc,
         Level::Relation,
         name(alloc, "i")?,
         Punct::Less,
         int(3),
-    )?;
-    let step = assign(alloc, name(alloc, "i")?, Punct::PlusAssign, int(1))?;
-    Ok(control(head, Some(test), Some(step)))
+    )
+}
+
+// `i += 1`
+fn one_more(alloc: Global) -> Result<Expr, Fail> {
+    assign(alloc, name(alloc, "i")?, Punct::PlusAssign, int(1))
+}
+
+// `( int i = 0 ; i < 3 ; i += 1 )`
+fn three_times(alloc: Global) -> Result<ForControl, Fail> {
+    let head = from_zero(alloc)?;
+    let test = below_three(alloc)?;
+    Ok(control(head, Some(test), Some(one_more(alloc)?)))
 }
 
 // `for ( int i = 0 ; i < 3 ; i += 1 ) break ;`

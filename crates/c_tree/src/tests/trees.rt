@@ -2,8 +2,8 @@
 
 use crate::{
     Block, BlockItem, Branch, Condition, Declaration, Declarator, DeclaratorSuffix, Definition,
-    Direct, Else, Expr, External, Identifier, InitDeclarator, Initialiser, IntKind, Level, Mark,
-    Next, Parameter, Pointer, Pos, Prefix, Punct, Specifier, Start, Stmt, Suffix, TypeName,
+    Direct, Else, Expr, External, Identifier, IfHead, InitDeclarator, Initialiser, IntKind, Level,
+    Mark, Next, Parameter, Pointer, Pos, Prefix, Punct, Specifier, Start, Stmt, Suffix, TypeName,
     TypeWord, Unit,
 };
 use std::alloc::Global;
@@ -39,6 +39,10 @@ pub fn unsigned(value: u32) -> Expr {
 
 pub fn character(value: u8) -> Expr {
     Expr::Char(value, HERE)
+}
+
+pub fn paren(alloc: Global, inner: Expr) -> Result<Expr, Fail> {
+    Ok(Expr::Paren(HERE, Boxed::new(alloc, inner)?, HERE))
 }
 
 pub fn next(punct: Punct, operand: Expr) -> Next {
@@ -88,6 +92,12 @@ pub fn postfix(alloc: Global, operand: Expr, suffix: Suffix) -> Result<Expr, Fai
 pub fn prefixed(alloc: Global, prefix: Prefix, operand: Expr) -> Result<Expr, Fail> {
     let run = items(alloc, [prefix])?;
     Ok(Expr::Prefixed(run, Boxed::new(alloc, operand)?))
+}
+
+/// `text` `(` argument `)`
+pub fn call(alloc: Global, text: &str, argument: Expr) -> Result<Expr, Fail> {
+    let suffix = Suffix::CallWith(HERE, argument, Items::new(alloc), HERE);
+    postfix(alloc, name(alloc, text)?, suffix)
 }
 
 pub fn words<const N: usize>(alloc: Global, all: [TypeWord; N]) -> Result<Items<Specifier>, Fail> {
@@ -171,6 +181,18 @@ pub fn if_stmt(alloc: Global, test: Expr, body: Stmt, others: Items<Else>) -> Re
         body: Boxed::new(alloc, body)?,
         others,
     })
+}
+
+pub fn else_if(test: Expr, body: Stmt) -> Else {
+    let head = IfHead {
+        word: HERE,
+        condition: condition(test),
+    };
+    Else {
+        word: HERE,
+        head: Some(head),
+        body,
+    }
 }
 
 pub fn else_last(body: Stmt) -> Else {
