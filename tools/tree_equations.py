@@ -371,4 +371,5 @@ def main():
             write(f"{family.module}/{title}.antt", family_file(family, title, cycle))
 
 
-main()
+if __name__ == "__main__":
+    main()
