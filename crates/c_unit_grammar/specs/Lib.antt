@@ -1,3 +1,4 @@
 pub mod Keywords
 pub mod Read
 pub mod Examples
+pub mod Laws

@@ -1,0 +1,4 @@
+-- The laws that tie the parser to the spelling, the levels and the nesting of trees.
+pub mod Common
+pub mod Shapes
+pub mod Initialisers
