@@ -2,3 +2,4 @@
 pub mod Common
 pub mod Shapes
 pub mod Initialisers
+pub mod Declarations
