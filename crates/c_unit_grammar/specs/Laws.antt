@@ -3,3 +3,5 @@ pub mod Common
 pub mod Shapes
 pub mod Initialisers
 pub mod Declarations
+pub mod StatementFacts
+pub mod Conditions

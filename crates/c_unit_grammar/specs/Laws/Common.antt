@@ -22,7 +22,7 @@ use Rattle.c_grammar.specs.Punctuators.{same_mark, same_mark-true}
 use Rattle.c_grammar.specs.Input.{Tokens, State, Outcome, Parser, and_then, ◌>>=◌, pure, choose, too_deep, peek, is_mark, sees, one, expect, enclosed}
 use Rattle.c_grammar.specs.Read.Specifiers.{optional_comma}
 use Rattle.c_grammar.specs.Ending.Trees.{expr_ending}
-use Rattle.c_grammar.specs.Laws.Form.{Form, Got, Exact, Node, Image, only, bind_ok, ok_pair, subst2, both, map_to, node_exact, same_exact, whole_exact, two, choose_same, choose_map, either, either_exact, either_guarded, quieted, without, without_guarded}
+use Rattle.c_grammar.specs.Laws.Form.{Form, Got, Exact, Guarded, Node, Image, only, bind_ok, ok_pair, subst2, both, map_to, node_exact, same_exact, whole_exact, two, choose_same, choose_map, either, either_exact, either_guarded, quieted, without, without_guarded}
 use Rattle.c_grammar.specs.Laws.Single.{single, always, Picks, one_exact, mark_form, expect_exact, sees_mark}
 use Rattle.c_grammar.specs.Laws.Rows.{deeper, closed, closed_exact}
 use Rattle.c_grammar.specs.Laws.Behind.{expr_form, nat_le-true, nat_le-is, before_mark}
@@ -64,13 +64,17 @@ sees_keyword key names at rest = ap (is_word key) (peek_word key at rest) ∙ sa
 -- ---- one of several parsers, as the next token is
 
 module _ {A K : Type 0} (H : Form A) (kind : State → K) (of : A → K) (more : ℕ) (reads : K → Parser A)
-    (each : (key : K) → Exact (only (λ x. of x ≡ key) H) more (reads key))
+    (each : (key : K) → Guarded (λ i. kind i ≡ key) (only (λ x. of x ≡ key) H) more (reads key))
     (seen : (names : Names) (x : A) (rest : Tokens) → H.good names x → H.stop x (names ++ H.adds names x) rest → kind (names, H.spell x ++ rest) ≡ of x) where
   pub dispatch_exact : Exact H more (dispatch kind reads)
   dispatch_exact = record {
-    sound = λ names ts x s h. let g = (each (kind (names, ts))).sound names ts x s h in record { good = g.good.1; nested = g.nested; spelt = g.spelt; seen = g.seen; stops = g.stops };
+    sound = λ names ts x s h. let g = (each (kind (names, ts))).sound names ts x s refl h in record { good = g.good.1; nested = g.nested; spelt = g.spelt; seen = g.seen; stops = g.stops };
     complete = λ names x rest g n s. ap (λ key. reads key (names, H.spell x ++ rest)) (seen names x rest g s) ∙ (each (of x)).complete names x rest (refl, g) n s;
   }
+
+-- what is read exactly is so where something is known
+pub known_exact : {A : Type 0} (known : State → Type 0) (F : Form A) (more : ℕ) (p : Parser A) → Exact F more p → Guarded known F more p
+known_exact known F more p exact = record { sound = λ names ts x s k h. exact.sound names ts x s h; complete = exact.complete }
 
 -- ---- a scope
 
