@@ -109,7 +109,7 @@ InitialisersRead =
     × (ending (initialises 2 (m p.LeftBrace ∷ m p.LeftBrace ∷ n a ∷ m p.RightBrace ∷ m p.RightBrace ∷ [])) ≡ Whole)
 
 pub initialisers_read : InitialisersRead
-unfolding input.peek input.behind input.one input.opening input.loop nodes.is_cast nodes.is_unary nodes.ties nodes.is_type nodes.is_typedef_word nodes.is_nothing inner.type_name expressions.sees_cast expressions.sees_sizeof_type expressions.goes_prefix expressions.after_operator expressions.nexts expressions.binary expressions.assigned_by expressions.commas_by expressions.paren expressions.strings expressions.primary expressions.index expressions.call expressions.member expressions.arrow expressions.increment expressions.decrement expressions.one_suffix expressions.postfixed expressions.cast_prefix expressions.one_prefix expressions.sizeof_type expressions.prefixed expressions.cast expressions.product expressions.sum expressions.shift expressions.relation expressions.equality expressions.bit_and expressions.bit_xor expressions.bit_or expressions.and expressions.or expressions.branch expressions.conditional expressions.assignment expressions.comma expressions.expression specifiers.member specifiers.struct_body specifiers.struct_specifier specifiers.one_enumerator specifiers.next_enumerator specifiers.enum_body specifiers.enum_specifier specifiers.one_specifier specifiers.specifiers declarators.pointer declarators.pointers declarators.grouped declarators.middle declarators.array declarators.parameter declarators.next_parameter declarators.parameters declarators.one_suffix declarators.declarator depth.inside depth.expression depth.specifiers depth.declarator initialisers.assigned initialisers.first_initialiser initialisers.next_initialiser initialisers.in_braces initialisers.one_initialiser initialisers.inside_initialiser initialisers.initialiser declarations.named declarations.start declarations.first_declarator declarations.next_declarator declarations.declarators declarations.declaration declarations.inside_declaration statements.value_until statements.condition statements.for_head statements.for_control statements.expression_statement statements.break_statement statements.continue_statement statements.return_statement statements.block statements.block_statement statements.body statements.if_head statements.one_else statements.if_statement statements.while_statement statements.do_statement statements.for_statement statements.switch_statement statements.statement statements.item statements.within units.function_body units.one_external units.externals units.parse out-Expr out-Prefix out-Specifier out-Direct out
+unfolding input.peek input.behind input.one input.opening input.loop nodes.is_cast nodes.is_unary nodes.ties nodes.is_type nodes.is_typedef_word nodes.is_nothing inner.type_name expressions.sees_cast expressions.sees_sizeof_type expressions.goes_prefix expressions.after_operator expressions.nexts expressions.binary expressions.assigned_by expressions.commas_by expressions.paren expressions.strings expressions.primary expressions.index expressions.call expressions.member expressions.arrow expressions.increment expressions.decrement expressions.one_suffix expressions.postfixed expressions.cast_prefix expressions.one_prefix expressions.sizeof_type expressions.prefixed expressions.cast expressions.product expressions.sum expressions.shift expressions.relation expressions.equality expressions.bit_and expressions.bit_xor expressions.bit_or expressions.and expressions.or expressions.branch expressions.conditional expressions.assignment expressions.comma expressions.expression specifiers.member specifiers.struct_body specifiers.struct_specifier specifiers.one_enumerator specifiers.next_enumerator specifiers.enum_body specifiers.enum_specifier specifiers.one_specifier specifiers.specifiers declarators.pointer declarators.pointers declarators.grouped declarators.middle declarators.array declarators.parameter declarators.next_parameter declarators.parameters declarators.one_suffix declarators.declarator depth.inside depth.expression depth.specifiers depth.declarator initialisers.assigned initialisers.first_initialiser initialisers.next_initialiser initialisers.in_braces initialisers.one_initialiser initialisers.inside_initialiser initialisers.initialiser declarations.named declarations.start declarations.first_declarator declarations.next_declarator declarations.declarators declarations.declaration declarations.inside_declaration statements.value_until statements.condition statements.for_head statements.for_control statements.expression_statement statements.break_statement statements.continue_statement statements.return_statement statements.block statements.block_statement statements.body statements.one_else statements.if_statement statements.while_statement statements.do_statement statements.for_statement statements.switch_statement statements.statement statements.item statements.within units.function_body units.one_external units.externals units.parse out-Expr out-Prefix out-Specifier out-Direct out
 initialisers_read = (refl, refl, refl, refl, refl, refl, refl)
 
 -- declarations, and a unit of them
@@ -125,7 +125,7 @@ DeclarationsRead =
     × (source (w word.Int ∷ n a ∷ m p.Assign ∷ one ∷ m p.Comma ∷ []) ≡ AtEnd Syntax)
 
 pub declarations_read : DeclarationsRead
-unfolding input.peek input.behind input.one input.opening input.loop nodes.is_cast nodes.is_unary nodes.ties nodes.is_type nodes.is_typedef_word nodes.is_nothing inner.type_name expressions.sees_cast expressions.sees_sizeof_type expressions.goes_prefix expressions.after_operator expressions.nexts expressions.binary expressions.assigned_by expressions.commas_by expressions.paren expressions.strings expressions.primary expressions.index expressions.call expressions.member expressions.arrow expressions.increment expressions.decrement expressions.one_suffix expressions.postfixed expressions.cast_prefix expressions.one_prefix expressions.sizeof_type expressions.prefixed expressions.cast expressions.product expressions.sum expressions.shift expressions.relation expressions.equality expressions.bit_and expressions.bit_xor expressions.bit_or expressions.and expressions.or expressions.branch expressions.conditional expressions.assignment expressions.comma expressions.expression specifiers.member specifiers.struct_body specifiers.struct_specifier specifiers.one_enumerator specifiers.next_enumerator specifiers.enum_body specifiers.enum_specifier specifiers.one_specifier specifiers.specifiers declarators.pointer declarators.pointers declarators.grouped declarators.middle declarators.array declarators.parameter declarators.next_parameter declarators.parameters declarators.one_suffix declarators.declarator depth.inside depth.expression depth.specifiers depth.declarator initialisers.assigned initialisers.first_initialiser initialisers.next_initialiser initialisers.in_braces initialisers.one_initialiser initialisers.inside_initialiser initialisers.initialiser declarations.named declarations.start declarations.first_declarator declarations.next_declarator declarations.declarators declarations.declaration declarations.inside_declaration statements.value_until statements.condition statements.for_head statements.for_control statements.expression_statement statements.break_statement statements.continue_statement statements.return_statement statements.block statements.block_statement statements.body statements.if_head statements.one_else statements.if_statement statements.while_statement statements.do_statement statements.for_statement statements.switch_statement statements.statement statements.item statements.within units.function_body units.one_external units.externals units.parse out-Expr out-Prefix out-Specifier out-Direct out
+unfolding input.peek input.behind input.one input.opening input.loop nodes.is_cast nodes.is_unary nodes.ties nodes.is_type nodes.is_typedef_word nodes.is_nothing inner.type_name expressions.sees_cast expressions.sees_sizeof_type expressions.goes_prefix expressions.after_operator expressions.nexts expressions.binary expressions.assigned_by expressions.commas_by expressions.paren expressions.strings expressions.primary expressions.index expressions.call expressions.member expressions.arrow expressions.increment expressions.decrement expressions.one_suffix expressions.postfixed expressions.cast_prefix expressions.one_prefix expressions.sizeof_type expressions.prefixed expressions.cast expressions.product expressions.sum expressions.shift expressions.relation expressions.equality expressions.bit_and expressions.bit_xor expressions.bit_or expressions.and expressions.or expressions.branch expressions.conditional expressions.assignment expressions.comma expressions.expression specifiers.member specifiers.struct_body specifiers.struct_specifier specifiers.one_enumerator specifiers.next_enumerator specifiers.enum_body specifiers.enum_specifier specifiers.one_specifier specifiers.specifiers declarators.pointer declarators.pointers declarators.grouped declarators.middle declarators.array declarators.parameter declarators.next_parameter declarators.parameters declarators.one_suffix declarators.declarator depth.inside depth.expression depth.specifiers depth.declarator initialisers.assigned initialisers.first_initialiser initialisers.next_initialiser initialisers.in_braces initialisers.one_initialiser initialisers.inside_initialiser initialisers.initialiser declarations.named declarations.start declarations.first_declarator declarations.next_declarator declarations.declarators declarations.declaration declarations.inside_declaration statements.value_until statements.condition statements.for_head statements.for_control statements.expression_statement statements.break_statement statements.continue_statement statements.return_statement statements.block statements.block_statement statements.body statements.one_else statements.if_statement statements.while_statement statements.do_statement statements.for_statement statements.switch_statement statements.statement statements.item statements.within units.function_body units.one_external units.externals units.parse out-Expr out-Prefix out-Specifier out-Direct out
 declarations_read = (refl, refl, refl, refl, refl, refl, refl, refl)
 
 -- each `else` goes with the nearest `if`
@@ -140,7 +140,7 @@ StatementsRead =
     × (in_block false (m p.LeftBrace ∷ w word.Return ∷ w word.Int ∷ m p.Semicolon ∷ m p.RightBrace ∷ []) ≡ Stopped Syntax 3)
 
 pub statements_read : StatementsRead
-unfolding input.peek input.behind input.one input.opening input.loop nodes.is_cast nodes.is_unary nodes.ties nodes.is_type nodes.is_typedef_word nodes.is_nothing inner.type_name expressions.sees_cast expressions.sees_sizeof_type expressions.goes_prefix expressions.after_operator expressions.nexts expressions.binary expressions.assigned_by expressions.commas_by expressions.paren expressions.strings expressions.primary expressions.index expressions.call expressions.member expressions.arrow expressions.increment expressions.decrement expressions.one_suffix expressions.postfixed expressions.cast_prefix expressions.one_prefix expressions.sizeof_type expressions.prefixed expressions.cast expressions.product expressions.sum expressions.shift expressions.relation expressions.equality expressions.bit_and expressions.bit_xor expressions.bit_or expressions.and expressions.or expressions.branch expressions.conditional expressions.assignment expressions.comma expressions.expression specifiers.member specifiers.struct_body specifiers.struct_specifier specifiers.one_enumerator specifiers.next_enumerator specifiers.enum_body specifiers.enum_specifier specifiers.one_specifier specifiers.specifiers declarators.pointer declarators.pointers declarators.grouped declarators.middle declarators.array declarators.parameter declarators.next_parameter declarators.parameters declarators.one_suffix declarators.declarator depth.inside depth.expression depth.specifiers depth.declarator initialisers.assigned initialisers.first_initialiser initialisers.next_initialiser initialisers.in_braces initialisers.one_initialiser initialisers.inside_initialiser initialisers.initialiser declarations.named declarations.start declarations.first_declarator declarations.next_declarator declarations.declarators declarations.declaration declarations.inside_declaration statements.value_until statements.condition statements.for_head statements.for_control statements.expression_statement statements.break_statement statements.continue_statement statements.return_statement statements.block statements.block_statement statements.body statements.if_head statements.one_else statements.if_statement statements.while_statement statements.do_statement statements.for_statement statements.switch_statement statements.statement statements.item statements.within units.function_body units.one_external units.externals units.parse out-Expr out-Prefix out-Specifier out-Direct out
+unfolding input.peek input.behind input.one input.opening input.loop nodes.is_cast nodes.is_unary nodes.ties nodes.is_type nodes.is_typedef_word nodes.is_nothing inner.type_name expressions.sees_cast expressions.sees_sizeof_type expressions.goes_prefix expressions.after_operator expressions.nexts expressions.binary expressions.assigned_by expressions.commas_by expressions.paren expressions.strings expressions.primary expressions.index expressions.call expressions.member expressions.arrow expressions.increment expressions.decrement expressions.one_suffix expressions.postfixed expressions.cast_prefix expressions.one_prefix expressions.sizeof_type expressions.prefixed expressions.cast expressions.product expressions.sum expressions.shift expressions.relation expressions.equality expressions.bit_and expressions.bit_xor expressions.bit_or expressions.and expressions.or expressions.branch expressions.conditional expressions.assignment expressions.comma expressions.expression specifiers.member specifiers.struct_body specifiers.struct_specifier specifiers.one_enumerator specifiers.next_enumerator specifiers.enum_body specifiers.enum_specifier specifiers.one_specifier specifiers.specifiers declarators.pointer declarators.pointers declarators.grouped declarators.middle declarators.array declarators.parameter declarators.next_parameter declarators.parameters declarators.one_suffix declarators.declarator depth.inside depth.expression depth.specifiers depth.declarator initialisers.assigned initialisers.first_initialiser initialisers.next_initialiser initialisers.in_braces initialisers.one_initialiser initialisers.inside_initialiser initialisers.initialiser declarations.named declarations.start declarations.first_declarator declarations.next_declarator declarations.declarators declarations.declaration declarations.inside_declaration statements.value_until statements.condition statements.for_head statements.for_control statements.expression_statement statements.break_statement statements.continue_statement statements.return_statement statements.block statements.block_statement statements.body statements.one_else statements.if_statement statements.while_statement statements.do_statement statements.for_statement statements.switch_statement statements.statement statements.item statements.within units.function_body units.one_external units.externals units.parse out-Expr out-Prefix out-Specifier out-Direct out
 statements_read = (refl, refl, refl, refl, refl, refl, refl)
 
 -- blocks, and labels in those of a switch
@@ -156,7 +156,7 @@ BlocksRead =
     × (in_block false (m p.LeftBrace ∷ w word.Case ∷ one ∷ m p.Colon ∷ m p.Semicolon ∷ m p.RightBrace ∷ []) ≡ Stopped Syntax 2)
 
 pub blocks_read : BlocksRead
-unfolding input.peek input.behind input.one input.opening input.loop nodes.is_cast nodes.is_unary nodes.ties nodes.is_type nodes.is_typedef_word nodes.is_nothing inner.type_name expressions.sees_cast expressions.sees_sizeof_type expressions.goes_prefix expressions.after_operator expressions.nexts expressions.binary expressions.assigned_by expressions.commas_by expressions.paren expressions.strings expressions.primary expressions.index expressions.call expressions.member expressions.arrow expressions.increment expressions.decrement expressions.one_suffix expressions.postfixed expressions.cast_prefix expressions.one_prefix expressions.sizeof_type expressions.prefixed expressions.cast expressions.product expressions.sum expressions.shift expressions.relation expressions.equality expressions.bit_and expressions.bit_xor expressions.bit_or expressions.and expressions.or expressions.branch expressions.conditional expressions.assignment expressions.comma expressions.expression specifiers.member specifiers.struct_body specifiers.struct_specifier specifiers.one_enumerator specifiers.next_enumerator specifiers.enum_body specifiers.enum_specifier specifiers.one_specifier specifiers.specifiers declarators.pointer declarators.pointers declarators.grouped declarators.middle declarators.array declarators.parameter declarators.next_parameter declarators.parameters declarators.one_suffix declarators.declarator depth.inside depth.expression depth.specifiers depth.declarator initialisers.assigned initialisers.first_initialiser initialisers.next_initialiser initialisers.in_braces initialisers.one_initialiser initialisers.inside_initialiser initialisers.initialiser declarations.named declarations.start declarations.first_declarator declarations.next_declarator declarations.declarators declarations.declaration declarations.inside_declaration statements.value_until statements.condition statements.for_head statements.for_control statements.expression_statement statements.break_statement statements.continue_statement statements.return_statement statements.block statements.block_statement statements.body statements.if_head statements.one_else statements.if_statement statements.while_statement statements.do_statement statements.for_statement statements.switch_statement statements.statement statements.item statements.within units.function_body units.one_external units.externals units.parse out-Expr out-Prefix out-Specifier out-Direct out
+unfolding input.peek input.behind input.one input.opening input.loop nodes.is_cast nodes.is_unary nodes.ties nodes.is_type nodes.is_typedef_word nodes.is_nothing inner.type_name expressions.sees_cast expressions.sees_sizeof_type expressions.goes_prefix expressions.after_operator expressions.nexts expressions.binary expressions.assigned_by expressions.commas_by expressions.paren expressions.strings expressions.primary expressions.index expressions.call expressions.member expressions.arrow expressions.increment expressions.decrement expressions.one_suffix expressions.postfixed expressions.cast_prefix expressions.one_prefix expressions.sizeof_type expressions.prefixed expressions.cast expressions.product expressions.sum expressions.shift expressions.relation expressions.equality expressions.bit_and expressions.bit_xor expressions.bit_or expressions.and expressions.or expressions.branch expressions.conditional expressions.assignment expressions.comma expressions.expression specifiers.member specifiers.struct_body specifiers.struct_specifier specifiers.one_enumerator specifiers.next_enumerator specifiers.enum_body specifiers.enum_specifier specifiers.one_specifier specifiers.specifiers declarators.pointer declarators.pointers declarators.grouped declarators.middle declarators.array declarators.parameter declarators.next_parameter declarators.parameters declarators.one_suffix declarators.declarator depth.inside depth.expression depth.specifiers depth.declarator initialisers.assigned initialisers.first_initialiser initialisers.next_initialiser initialisers.in_braces initialisers.one_initialiser initialisers.inside_initialiser initialisers.initialiser declarations.named declarations.start declarations.first_declarator declarations.next_declarator declarations.declarators declarations.declaration declarations.inside_declaration statements.value_until statements.condition statements.for_head statements.for_control statements.expression_statement statements.break_statement statements.continue_statement statements.return_statement statements.block statements.block_statement statements.body statements.one_else statements.if_statement statements.while_statement statements.do_statement statements.for_statement statements.switch_statement statements.statement statements.item statements.within units.function_body units.one_external units.externals units.parse out-Expr out-Prefix out-Specifier out-Direct out
 blocks_read = (refl, refl, refl, refl, refl, refl, refl, refl)
 
 -- the typedef name `t` is hidden in a scope by an enumerator, and visible again behind it
@@ -174,7 +174,7 @@ ScopesRead =
     × (in_block false (m p.LeftBrace ∷ w word.If ∷ m p.LeftParen ∷ w word.Sizeof ∷ m p.LeftParen ∷ w word.Enum ∷ m p.LeftBrace ∷ n t ∷ m p.RightBrace ∷ m p.RightParen ∷ m p.RightParen ∷ m p.Semicolon ∷ w word.Else ∷ n t ∷ m p.Assign ∷ one ∷ m p.Semicolon ∷ n t ∷ n a ∷ m p.Semicolon ∷ m p.RightBrace ∷ []) ≡ Whole)
 
 pub scopes_read : ScopesRead
-unfolding input.peek input.behind input.one input.opening input.loop nodes.is_cast nodes.is_unary nodes.ties nodes.is_type nodes.is_typedef_word nodes.is_nothing inner.type_name expressions.sees_cast expressions.sees_sizeof_type expressions.goes_prefix expressions.after_operator expressions.nexts expressions.binary expressions.assigned_by expressions.commas_by expressions.paren expressions.strings expressions.primary expressions.index expressions.call expressions.member expressions.arrow expressions.increment expressions.decrement expressions.one_suffix expressions.postfixed expressions.cast_prefix expressions.one_prefix expressions.sizeof_type expressions.prefixed expressions.cast expressions.product expressions.sum expressions.shift expressions.relation expressions.equality expressions.bit_and expressions.bit_xor expressions.bit_or expressions.and expressions.or expressions.branch expressions.conditional expressions.assignment expressions.comma expressions.expression specifiers.member specifiers.struct_body specifiers.struct_specifier specifiers.one_enumerator specifiers.next_enumerator specifiers.enum_body specifiers.enum_specifier specifiers.one_specifier specifiers.specifiers declarators.pointer declarators.pointers declarators.grouped declarators.middle declarators.array declarators.parameter declarators.next_parameter declarators.parameters declarators.one_suffix declarators.declarator depth.inside depth.expression depth.specifiers depth.declarator initialisers.assigned initialisers.first_initialiser initialisers.next_initialiser initialisers.in_braces initialisers.one_initialiser initialisers.inside_initialiser initialisers.initialiser declarations.named declarations.start declarations.first_declarator declarations.next_declarator declarations.declarators declarations.declaration declarations.inside_declaration statements.value_until statements.condition statements.for_head statements.for_control statements.expression_statement statements.break_statement statements.continue_statement statements.return_statement statements.block statements.block_statement statements.body statements.if_head statements.one_else statements.if_statement statements.while_statement statements.do_statement statements.for_statement statements.switch_statement statements.statement statements.item statements.within units.function_body units.one_external units.externals units.parse out-Expr out-Prefix out-Specifier out-Direct out
+unfolding input.peek input.behind input.one input.opening input.loop nodes.is_cast nodes.is_unary nodes.ties nodes.is_type nodes.is_typedef_word nodes.is_nothing inner.type_name expressions.sees_cast expressions.sees_sizeof_type expressions.goes_prefix expressions.after_operator expressions.nexts expressions.binary expressions.assigned_by expressions.commas_by expressions.paren expressions.strings expressions.primary expressions.index expressions.call expressions.member expressions.arrow expressions.increment expressions.decrement expressions.one_suffix expressions.postfixed expressions.cast_prefix expressions.one_prefix expressions.sizeof_type expressions.prefixed expressions.cast expressions.product expressions.sum expressions.shift expressions.relation expressions.equality expressions.bit_and expressions.bit_xor expressions.bit_or expressions.and expressions.or expressions.branch expressions.conditional expressions.assignment expressions.comma expressions.expression specifiers.member specifiers.struct_body specifiers.struct_specifier specifiers.one_enumerator specifiers.next_enumerator specifiers.enum_body specifiers.enum_specifier specifiers.one_specifier specifiers.specifiers declarators.pointer declarators.pointers declarators.grouped declarators.middle declarators.array declarators.parameter declarators.next_parameter declarators.parameters declarators.one_suffix declarators.declarator depth.inside depth.expression depth.specifiers depth.declarator initialisers.assigned initialisers.first_initialiser initialisers.next_initialiser initialisers.in_braces initialisers.one_initialiser initialisers.inside_initialiser initialisers.initialiser declarations.named declarations.start declarations.first_declarator declarations.next_declarator declarations.declarators declarations.declaration declarations.inside_declaration statements.value_until statements.condition statements.for_head statements.for_control statements.expression_statement statements.break_statement statements.continue_statement statements.return_statement statements.block statements.block_statement statements.body statements.one_else statements.if_statement statements.while_statement statements.do_statement statements.for_statement statements.switch_statement statements.statement statements.item statements.within units.function_body units.one_external units.externals units.parse out-Expr out-Prefix out-Specifier out-Direct out
 scopes_read = (refl, refl, refl, refl, refl, refl, refl, refl, refl, refl)
 
 -- the limit on brackets and on bodies that are no blocks
@@ -190,5 +190,5 @@ NestingRead =
     × (ending (states 1 (w word.If ∷ m p.LeftParen ∷ n a ∷ m p.RightParen ∷ m p.Semicolon ∷ w word.Else ∷ w word.If ∷ m p.LeftParen ∷ n b ∷ m p.RightParen ∷ m p.Semicolon ∷ w word.Else ∷ m p.Semicolon ∷ [])) ≡ Whole)
 
 pub nesting_read : NestingRead
-unfolding input.peek input.behind input.one input.opening input.loop nodes.is_cast nodes.is_unary nodes.ties nodes.is_type nodes.is_typedef_word nodes.is_nothing inner.type_name expressions.sees_cast expressions.sees_sizeof_type expressions.goes_prefix expressions.after_operator expressions.nexts expressions.binary expressions.assigned_by expressions.commas_by expressions.paren expressions.strings expressions.primary expressions.index expressions.call expressions.member expressions.arrow expressions.increment expressions.decrement expressions.one_suffix expressions.postfixed expressions.cast_prefix expressions.one_prefix expressions.sizeof_type expressions.prefixed expressions.cast expressions.product expressions.sum expressions.shift expressions.relation expressions.equality expressions.bit_and expressions.bit_xor expressions.bit_or expressions.and expressions.or expressions.branch expressions.conditional expressions.assignment expressions.comma expressions.expression specifiers.member specifiers.struct_body specifiers.struct_specifier specifiers.one_enumerator specifiers.next_enumerator specifiers.enum_body specifiers.enum_specifier specifiers.one_specifier specifiers.specifiers declarators.pointer declarators.pointers declarators.grouped declarators.middle declarators.array declarators.parameter declarators.next_parameter declarators.parameters declarators.one_suffix declarators.declarator depth.inside depth.expression depth.specifiers depth.declarator initialisers.assigned initialisers.first_initialiser initialisers.next_initialiser initialisers.in_braces initialisers.one_initialiser initialisers.inside_initialiser initialisers.initialiser declarations.named declarations.start declarations.first_declarator declarations.next_declarator declarations.declarators declarations.declaration declarations.inside_declaration statements.value_until statements.condition statements.for_head statements.for_control statements.expression_statement statements.break_statement statements.continue_statement statements.return_statement statements.block statements.block_statement statements.body statements.if_head statements.one_else statements.if_statement statements.while_statement statements.do_statement statements.for_statement statements.switch_statement statements.statement statements.item statements.within units.function_body units.one_external units.externals units.parse out-Expr out-Prefix out-Specifier out-Direct out
+unfolding input.peek input.behind input.one input.opening input.loop nodes.is_cast nodes.is_unary nodes.ties nodes.is_type nodes.is_typedef_word nodes.is_nothing inner.type_name expressions.sees_cast expressions.sees_sizeof_type expressions.goes_prefix expressions.after_operator expressions.nexts expressions.binary expressions.assigned_by expressions.commas_by expressions.paren expressions.strings expressions.primary expressions.index expressions.call expressions.member expressions.arrow expressions.increment expressions.decrement expressions.one_suffix expressions.postfixed expressions.cast_prefix expressions.one_prefix expressions.sizeof_type expressions.prefixed expressions.cast expressions.product expressions.sum expressions.shift expressions.relation expressions.equality expressions.bit_and expressions.bit_xor expressions.bit_or expressions.and expressions.or expressions.branch expressions.conditional expressions.assignment expressions.comma expressions.expression specifiers.member specifiers.struct_body specifiers.struct_specifier specifiers.one_enumerator specifiers.next_enumerator specifiers.enum_body specifiers.enum_specifier specifiers.one_specifier specifiers.specifiers declarators.pointer declarators.pointers declarators.grouped declarators.middle declarators.array declarators.parameter declarators.next_parameter declarators.parameters declarators.one_suffix declarators.declarator depth.inside depth.expression depth.specifiers depth.declarator initialisers.assigned initialisers.first_initialiser initialisers.next_initialiser initialisers.in_braces initialisers.one_initialiser initialisers.inside_initialiser initialisers.initialiser declarations.named declarations.start declarations.first_declarator declarations.next_declarator declarations.declarators declarations.declaration declarations.inside_declaration statements.value_until statements.condition statements.for_head statements.for_control statements.expression_statement statements.break_statement statements.continue_statement statements.return_statement statements.block statements.block_statement statements.body statements.one_else statements.if_statement statements.while_statement statements.do_statement statements.for_statement statements.switch_statement statements.statement statements.item statements.within units.function_body units.one_external units.externals units.parse out-Expr out-Prefix out-Specifier out-Direct out
 nesting_read = (refl, refl, refl, refl, refl, refl, refl, refl)

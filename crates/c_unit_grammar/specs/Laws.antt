@@ -5,3 +5,4 @@ pub mod Initialisers
 pub mod Declarations
 pub mod StatementFacts
 pub mod Conditions
+pub mod Bodies

@@ -144,21 +144,22 @@ module _ (more : ℕ) (inner : Within) where
 
   -- ---- statements that are scopes (C11 6.8.4, 6.8.5)
 
-  abbrev pub some_if_head : Parser (Option IfHead)
-  some_if_head = do
-    at ← expect_word word.If
+  abbrev pub else_if : Pos → Parser Else
+  else_if at = do
+    if_at ← expect_word word.If
     c ← condition more
-    pure (Some (record { word = at; condition = c }))
+    b ← body
+    pure (roll-Else (record { word = at; head = Some (record { word = if_at; condition = c }); body = b }))
 
-  unfoldable pub if_head : Parser (Option IfHead)
-  if_head = choose (sees_word word.If) some_if_head (pure None)
+  abbrev pub last_else : Pos → Parser Else
+  last_else at = do
+    b ← body
+    pure (roll-Else (record { word = at; head = None; body = b }))
 
   unfoldable pub one_else : Parser Else
   one_else = do
     at ← expect_word word.Else
-    first ← if_head
-    b ← body
-    pure (roll-Else (record { word = at; head = first; body = b }))
+    choose (sees_word word.If) (else_if at) (last_else at)
 
   unfoldable pub if_statement : Parser Stmt
   if_statement = enclosed (do
