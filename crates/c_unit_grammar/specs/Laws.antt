@@ -6,3 +6,5 @@ pub mod Declarations
 pub mod StatementFacts
 pub mod Conditions
 pub mod Bodies
+pub mod Loops
+pub mod Elses

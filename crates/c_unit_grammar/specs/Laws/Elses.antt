@@ -1,0 +1,1 @@
+-- Each `else` is read exactly (C11 6.8.4.1).
