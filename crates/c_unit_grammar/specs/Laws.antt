@@ -8,3 +8,4 @@ pub mod Conditions
 pub mod Bodies
 pub mod Loops
 pub mod Elses
+pub mod Statements

@@ -245,10 +245,10 @@ module _ (typed typedef : Bool) where
   abbrev next_of : Pos × ((Declarator × Beside) × Option Start) → InitDeclarator
   next_of t = record { comma = Some t.0; declarator = t.1.0.0; start = t.1.1 }
 
-  plain_level : (comma : Option Pos) (names : Names) (d : Declarator) (b : Beside) (s : Option Start) → plain_form.good names ((d, b), s) → (level (record { comma = comma; declarator = d; start = s }) names).0.good ≡ true
+  pub plain_level : (comma : Option Pos) (names : Names) (d : Declarator) (b : Beside) (s : Option Start) → plain_form.good names ((d, b), s) → (level (record { comma = comma; declarator = d; start = s }) names).0.good ≡ true
   plain_level comma names d b s g = both_are _ _ g.0.0 g.1
 
-  level_plain : (comma : Option Pos) (names : Names) (d : Declarator) (s : Option Start) → (level (record { comma = comma; declarator = d; start = s }) names).0.good ≡ true → plain_form.good names ((d, (declarator_level d names).0.beside), s)
+  pub level_plain : (comma : Option Pos) (names : Names) (d : Declarator) (s : Option Start) → (level (record { comma = comma; declarator = d; start = s }) names).0.good ≡ true → plain_form.good names ((d, (declarator_level d names).0.beside), s)
   level_plain comma names d s h = let b = both_true (declares Declaring typed (declarator_level d names).0) _ h in ((b.0, refl), b.1)
 
   first_joint : Joint plain_form first_of (item_form IsNone)
@@ -281,7 +281,7 @@ start_first : (s : Option Start) (t : Token) (ts : Tokens) → start_spelling s 
 start_first None t ts e = absurd cc
 start_first (Some s) t ts e = (s.equals, cc)
 
-start_quiet : (s : Option Start) (names : Names) → start_spelling s ≡ [] → (start_level s names).1 ≡ []
+pub start_quiet : (s : Option Start) (names : Names) → start_spelling s ≡ [] → (start_level s names).1 ≡ []
 start_quiet None names e = refl
 start_quiet (Some s) names e = absurd cc
 
@@ -337,7 +337,7 @@ module _ (typed typedef : Bool) where
     step = λ s x. tt;
   }
 
-  comma_begins : (x : InitDeclarator) (c : Option Pos) → x.comma ≡ c → is_some c ≡ true → Begins p.Comma (init_declarator_spelling x)
+  pub comma_begins : (x : InitDeclarator) (c : Option Pos) → x.comma ≡ c → is_some c ≡ true → Begins p.Comma (init_declarator_spelling x)
   comma_begins x None e h = absurd cc
   comma_begins x (Some at) e h = record { at = at; others = declarator_spelling x.declarator ++ start_spelling x.start; spelt = ap (λ c. comma_at c ++ (declarator_spelling x.declarator ++ start_spelling x.start)) e }
 
@@ -349,10 +349,10 @@ module _ (typed typedef : Bool) where
     by None = unlike op p.Assign at rest e
     by (Some s) = initialiser_before op s.value at rest j
 
-  good_declares : (x : InitDeclarator) (names : Names) → (level typed typedef x names).0.good ≡ true → declares Declaring typed (declarator_level x.declarator names).0 ≡ true
+  pub good_declares : (x : InitDeclarator) (names : Names) → (level typed typedef x names).0.good ≡ true → declares Declaring typed (declarator_level x.declarator names).0 ≡ true
   good_declares x names h = (both_true (declares Declaring typed (declarator_level x.declarator names).0) _ h).0
 
-  item_then : (x y : InitDeclarator) (names before : Names) (rest : Tokens) → (level typed typedef x before).0.good ≡ true → is_some y.comma ≡ true → init_stop typed x.declarator x.start names (init_declarator_spelling y ++ rest)
+  pub item_then : (x y : InitDeclarator) (names before : Names) (rest : Tokens) → (level typed typedef x before).0.good ≡ true → is_some y.comma ≡ true → init_stop typed x.declarator x.start names (init_declarator_spelling y ++ rest)
   item_then x y names before rest g h =
       let b = comma_begins y y.comma refl h in
       subst (λ l. init_stop typed x.declarator x.start names (l ++ rest)) (sym b.spelt) (item_before x names before p.Comma b.at (b.others ++ rest) (good_declares x before g) comma_apart refl (omega arith))
@@ -552,13 +552,13 @@ declaration_form = record {
 abbrev pub rows : List Specifier → Form (List InitDeclarator)
 rows specifiers = row_form (name_type specifiers) (have_typedef specifiers)
 
-abbrev declaration_parts : Form ((List Specifier × List InitDeclarator) × Pos)
+abbrev pub declaration_parts : Form ((List Specifier × List InitDeclarator) × Pos)
 declaration_parts = closed (seq (specifiers_form true) rows) p.Semicolon
 
-abbrev declaration_of : (List Specifier × List InitDeclarator) × Pos → Declaration
+abbrev pub declaration_of : (List Specifier × List InitDeclarator) × Pos → Declaration
 declaration_of t = record { specifiers = t.0.0; declarators = t.0.1; semicolon = t.1 }
 
-abbrev facts : Names → List Specifier → SpecifiersFacts
+abbrev pub facts : Names → List Specifier → SpecifiersFacts
 facts names specifiers = facts_of_specifiers (in_row (map specifier_level specifiers) names).0
 
 -- what is told of declarators depends on the specifiers by two facts alone
@@ -567,7 +567,7 @@ pub row_told : (names before : Names) (specifiers : List Specifier) (xs : List I
 row_told names before specifiers xs =
     ap (λ b. in_row (map (level b (have_typedef specifiers)) xs) names) (types_are specifiers before) ∙ ap (λ b. in_row (map (level (names_type (in_row (map specifier_level specifiers) before).0) b) xs) names) (typedef_is specifiers before)
 
-declaration_node : Node declaration_parts declaration_of declaration_form
+pub declaration_node : Node declaration_parts declaration_of declaration_form
 declaration_node = record {
   good = λ names t g.
       let f = form_told true names t.0.0 g.0.0 in
