@@ -9,3 +9,4 @@ pub mod Bodies
 pub mod Loops
 pub mod Elses
 pub mod Statements
+pub mod Externals
