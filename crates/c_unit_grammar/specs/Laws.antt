@@ -10,3 +10,4 @@ pub mod Loops
 pub mod Elses
 pub mod Statements
 pub mod Externals
+pub mod Units

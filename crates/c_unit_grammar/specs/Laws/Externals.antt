@@ -254,3 +254,181 @@ parts_form = seq (specifiers_form true) tail_form
 
 parts_exact : (more : ℕ) → Exact parts_form more (both (depth.specifiers more true) (λ specifiers. tail_reader more specifiers))
 parts_exact more = seq_exact (specifiers_form true) tail_form more (depth.specifiers more true) (λ specifiers. tail_reader more specifiers) (specifiers_read more true) (λ specifiers. tail_exact more specifiers) (λ names specifiers u rest g h st. tail_follows specifiers _ u rest h)
+
+-- ---- declarations and definitions
+
+abbrev pub external_form : Form External
+external_form = record {
+  spell = external_spelling;
+  good = λ names e. (external_level e names).0 ≡ true;
+  adds = λ names e. (external_level e names).1;
+  nest = external_nesting;
+  stop = λ e names rest. Unit {0};
+}
+
+abbrev external_by : List Specifier → Pos ⊎ With → External
+external_by specifiers (inl at) = external.Declaration (record { specifiers = specifiers; declarators = []; semicolon = at })
+external_by specifiers (inr (d, inl body)) = external.Definition (record { specifiers = specifiers; declarator = d.0; body = body })
+external_by specifiers (inr (d, inr t)) = external.Declaration (record { specifiers = specifiers; declarators = record { comma = None; declarator = d.0; start = t.0.0 } ∷ t.0.1; semicolon = t.1 })
+
+abbrev external_of : List Specifier × (Pos ⊎ With) → External
+external_of t = external_by t.0 t.1
+
+-- ---- what is told of a definition depends on the specifiers by three facts alone
+
+abbrev told_with : Bool → Bool → Bool → SpecifiersFacts
+told_with good typed typedef = record { good = good; names_type = typed; has_storage = false; has_typedef = typedef; is_void = false }
+
+abbrev function_level : SpecifiersFacts → Declarator → Block → Told Bool
+function_level s d body = leads_to (declaring (declared s.has_typedef) (declarator_level d)) (λ f. by (λ b. s.good && (declares Declaring s.names_type f && (is_listing f.beside && (b.good && not b.has_label)))) (body_level f (block_level body)))
+
+function_told : (names before : Names) (specifiers : List Specifier) (d : Declarator) (body : Block)
+    → function_level (told_with (facts before specifiers).good (name_type specifiers) (have_typedef specifiers)) d body names ≡ function_level (facts before specifiers) d body names
+function_told names before specifiers d body =
+    ap (λ b. function_level (told_with (facts before specifiers).good b (have_typedef specifiers)) d body names) (types_are specifiers before)
+    ∙ ap (λ b. function_level (told_with (facts before specifiers).good (names_type (in_row (map specifier_level specifiers) before).0) b) d body names) (typedef_is specifiers before)
+
+abbrev names_behind : Names → List Specifier → Names
+names_behind names specifiers = names ++ (in_row (map specifier_level specifiers) names).1
+
+-- ---- a declaration by its first declarator
+
+abbrev first_item : Declarator → Option Start → InitDeclarator
+first_item d s = record { comma = None; declarator = d; start = s }
+
+row_good : (specifiers : List Specifier) (names : Names) (d : Declarator × Beside) (t : Rest) → (with_form specifiers).good names (d, inr t) → (rows specifiers).good names (first_item d.0 t.0.0 ∷ t.0.1)
+row_good specifiers names d t g =
+    let ty : Bool = name_type specifiers in
+    let td : Bool = have_typedef specifiers in
+    let a : Names = (declarator_level d.0 names).1 ++ declared_by td names d.0 in
+    (row_node ty td).good names (first_item d.0 t.0.0, t.0.1)
+    ((refl, both_are _ _ g.0.0 g.1.0.0), subst (λ n. all_good (items ty td) tt n t.0.1) (append_assoc names a (start_level t.0.0 (names ++ a)).1) g.1.0.1)
+
+good_row : (specifiers : List Specifier) (names : Names) (d : Declarator) (s : Option Start) (xs : List InitDeclarator) (e : Pos) → (rows specifiers).good names (first_item d s ∷ xs) → (with_form specifiers).good names ((d, (declarator_level d names).0.beside), inr ((s, xs), e))
+good_row specifiers names d s xs e h =
+    let ty : Bool = name_type specifiers in
+    let td : Bool = have_typedef specifiers in
+    let a : Names = (declarator_level d names).1 ++ declared_by td names d in
+    let g = (row_node ty td).parts names (first_item d s, xs) h in
+    let b = both_true (declares Declaring ty (declarator_level d names).0) _ g.0.1 in
+    ((b.0, refl), ((b.1, subst (λ n. all_good (items ty td) tt n xs) (sym (append_assoc names a (start_level s (names ++ a)).1)) g.1), tt))
+
+row_seen : (specifiers : List Specifier) (names : Names) (d : Declarator × Beside) (t : Rest) → (rows specifiers).adds names (first_item d.0 t.0.0 ∷ t.0.1) ≡ (with_form specifiers).adds names (d, inr t)
+row_seen specifiers names d t =
+    let ty : Bool = name_type specifiers in
+    let td : Bool = have_typedef specifiers in
+    let a : Names = (declarator_level d.0 names).1 ++ declared_by td names d.0 in
+    let b : Names = (start_level t.0.0 (names ++ a)).1 in
+    (row_node ty td).seen names (first_item d.0 t.0.0, t.0.1)
+    ∙ append_assoc a b (all_added (items ty td) (names ++ (a ++ b)) t.0.1)
+    ∙ ap (λ n. a ++ (b ++ all_added (items ty td) n t.0.1)) (sym (append_assoc names a b))
+
+rest_spelt : (a b c e : Tokens) → ((a ++ b) ++ c) ++ e ≡ a ++ ((b ++ c) ++ e)
+rest_spelt a b c e = ap (λ l. l ++ e) (append_assoc a b c) ∙ append_assoc a (b ++ c) e
+
+-- ---- the parts and the whole
+
+by_good : (names : Names) (specifiers : List Specifier) (u : Pos ⊎ With) → parts_form.good names (specifiers, u) → (external_level (external_by specifiers u) names).0 ≡ true
+by_good names specifiers (inl at) g = declaration_node.good names ((specifiers, []), at) ((g.0, refl), tt)
+by_good names specifiers (inr (d, inl body)) g =
+    let names1 : Names = names_behind names specifiers in
+    let f = form_told true names specifiers g.0 in
+    let b = g.1.1 in
+    sym (ap (λ r. r.0) (function_told names1 names specifiers d.0 body))
+    ∙ both_are _ _ f.0 (both_are _ _ g.1.0.0 (both_are _ _ (sym (ap is_listing g.1.0.1) ∙ b.0)
+    (subst (λ n. ((block_level body n).0.good && not (block_level body n).0.has_label) ≡ true)
+    (ap (λ w. (names1 ++ ((declarator_level d.0 names1).1 ++ declared_by (have_typedef specifiers) names1 d.0)) ++ parameters_of w) g.1.0.1)
+    (both_are _ _ b.1.0 b.1.1))))
+by_good names specifiers (inr (d, inr t)) g = declaration_node.good names ((specifiers, first_item d.0 t.0.0 ∷ t.0.1), t.1) ((g.0, row_good specifiers (names_behind names specifiers) d t g.1), tt)
+
+-- each is made of parts
+by_split : (names : Names) (e : External) → (external_level e names).0 ≡ true → Split parts_form external_of external_form names e
+by_split names (external.Declaration d) h = from d.declarators refl where
+  from : (ds : List InitDeclarator) → d.declarators ≡ ds → Split parts_form external_of external_form names (external.Declaration d)
+  from [] q =
+      let g = declaration_node.parts names ((d.specifiers, d.declarators), d.semicolon) h in
+      record { tuple = (d.specifiers, inl d.semicolon); whole = ap (λ ds. external.Declaration (record { specifiers = d.specifiers; declarators = ds; semicolon = d.semicolon })) (sym q); good = (g.0.0, tt) }
+  from (x ∷ xs) q =
+      let ty : Bool = name_type d.specifiers in
+      let td : Bool = have_typedef d.specifiers in
+      let names1 : Names = names_behind names d.specifiers in
+      let g = declaration_node.parts names ((d.specifiers, d.declarators), d.semicolon) h in
+      let r : (rows d.specifiers).good names1 (x ∷ xs) = subst (λ ds. (rows d.specifiers).good names1 ds) q g.0.1 in
+      let n = (row_node ty td).parts names1 (x, xs) r in
+      let c : None ≡ x.comma = sym n.0.0 in
+      record {
+        tuple = (d.specifiers, inr ((x.declarator, (declarator_level x.declarator names1).0.beside), inr ((x.start, xs), d.semicolon)));
+        whole =
+            ap (λ c. external.Declaration (record { specifiers = d.specifiers; declarators = record { comma = c; declarator = x.declarator; start = x.start } ∷ xs; semicolon = d.semicolon })) c
+            ∙ ap (λ ds. external.Declaration (record { specifiers = d.specifiers; declarators = ds; semicolon = d.semicolon })) (sym q);
+        good = (g.0.0, good_row d.specifiers names1 x.declarator x.start xs d.semicolon (subst (λ c. (rows d.specifiers).good names1 (record { comma = c; declarator = x.declarator; start = x.start } ∷ xs)) (sym c) r));
+      }
+by_split names (external.Definition d) h =
+    let names1 : Names = names_behind names d.specifiers in
+    let a = both_true (facts names d.specifiers).good _ (ap (λ r. r.0) (function_told names1 names d.specifiers d.declarator d.body) ∙ h) in
+    let b = both_true (declares Declaring (name_type d.specifiers) (declarator_level d.declarator names1).0) _ a.1 in
+    let c = both_true (is_listing (declarator_level d.declarator names1).0.beside) _ b.1 in
+    record {
+      tuple = (d.specifiers, inr ((d.declarator, (declarator_level d.declarator names1).0.beside), inl d.body));
+      whole = refl;
+      good = (form_is true names d.specifiers a.0 refl, ((b.0, refl), (c.0, both_true _ _ c.1)));
+    }
+
+by_nested : (specifiers : List Specifier) (u : Pos ⊎ With) → external_nesting (external_by specifiers u) ≡ parts_form.nest (specifiers, u)
+by_nested specifiers (inl at) = omega arith
+by_nested specifiers (inr (d, inl body)) = omega arith
+by_nested specifiers (inr (d, inr t)) = omega arith
+
+by_spelt : (specifiers : List Specifier) (u : Pos ⊎ With) → external_spelling (external_by specifiers u) ≡ parts_form.spell (specifiers, u)
+by_spelt specifiers (inl at) = refl
+by_spelt specifiers (inr (d, inl body)) = refl
+by_spelt specifiers (inr (d, inr t)) =
+    ap (λ l. joined (map specifier_spelling specifiers) ++ l) (rest_spelt (declarator_spelling d.0) (start_spelling t.0.0) (joined (map init_declarator_spelling t.0.1)) (punct p.Semicolon t.1 ∷ []))
+
+by_seen : (names : Names) (specifiers : List Specifier) (u : Pos ⊎ With) → (external_level (external_by specifiers u) names).1 ≡ parts_form.adds names (specifiers, u)
+by_seen names specifiers (inl at) = declaration_node.seen names ((specifiers, []), at)
+by_seen names specifiers (inr (d, inl body)) =
+    ap (λ r. (in_row (map specifier_level specifiers) names).1 ++ r.1) (sym (function_told (names_behind names specifiers) names specifiers d.0 body))
+by_seen names specifiers (inr (d, inr t)) =
+    declaration_node.seen names ((specifiers, first_item d.0 t.0.0 ∷ t.0.1), t.1) ∙ ap (λ l. (in_row (map specifier_level specifiers) names).1 ++ l) (row_seen specifiers (names_behind names specifiers) d t)
+
+stop_by : (specifiers : List Specifier) (u : Pos ⊎ With) (behind : Names) (rest : Tokens) → parts_form.stop (specifiers, u) behind rest
+stop_by specifiers (inl at) behind rest = tt
+stop_by specifiers (inr (d, inl body)) behind rest = tt
+stop_by specifiers (inr (d, inr t)) behind rest = tt
+
+external_joint : Joint parts_form external_of external_form
+external_joint = record {
+  good = λ names t g. by_good names t.0 t.1 g;
+  split = by_split;
+  nested = λ t. by_nested t.0 t.1;
+  spelt = λ t. by_spelt t.0 t.1;
+  seen = λ names t. by_seen names t.0 t.1;
+  stop = λ names t behind rest g h. tt;
+  from_stop = λ names t behind rest g h. stop_by t.0 t.1 behind rest;
+}
+
+-- ---- the parser reads the parts
+
+with_made : (more : ℕ) (specifiers : List Specifier) (i : State) → with_declarator more specifiers i ≡ (with_reader more specifiers >>= (λ t. pure (external_by specifiers (inr t)))) i
+with_made more specifiers i =
+    bind_same (named more specifiers) (λ d. choose (begins_body more d.1) (definition more specifiers d.0 d.1) (declaration_from more specifiers d.0)) (λ d. behind_reader more specifiers d >>= (λ u. pure (external_by specifiers (inr (d, u)))))
+    (λ d j. choose_same (begins_body more d.1) (definition more specifiers d.0 d.1) (declaration_from more specifiers d.0)
+    (function_body more d.1 >>= (λ b. pure (external_by specifiers (inr (d, inl b))))) (rest_reader more specifiers >>= (λ t. pure (external_by specifiers (inr (d, inr t)))))
+    (λ j. refl)
+    (λ j. three (start more) (λ s. many (sees p.Comma) (next_declarator more specifiers)) (λ s rest. expect p.Semicolon) (λ s rest e. external.Declaration (record { specifiers = specifiers; declarators = first_item d.0 s ∷ rest; semicolon = e })) j) j
+    ∙ choose_map (begins_body more d.1) (function_body more d.1) (rest_reader more specifiers) (λ u. external_by specifiers (inr (d, u))) j) i
+    ∙ two (named more specifiers) (λ d. behind_reader more specifiers d) (λ d u. external_by specifiers (inr (d, u))) i
+
+external_reads : (more : ℕ) (i : State) → one_external more i ≡ map_to (both (depth.specifiers more true) (λ specifiers. tail_reader more specifiers)) external_of i
+unfolding one_external
+external_reads more i =
+    bind_same (depth.specifiers more true) (λ specifiers. choose (sees p.Semicolon) (no_declarators more specifiers) (with_declarator more specifiers)) (λ specifiers. tail_reader more specifiers >>= (λ u. pure (external_by specifiers u)))
+    (λ specifiers j. choose_same (sees p.Semicolon) (no_declarators more specifiers) (with_declarator more specifiers)
+    (expect p.Semicolon >>= (λ at. pure (external_by specifiers (inl at)))) (with_reader more specifiers >>= (λ t. pure (external_by specifiers (inr t))))
+    (λ j. refl) (λ j. with_made more specifiers j) j
+    ∙ choose_map (sees p.Semicolon) (expect p.Semicolon) (with_reader more specifiers) (external_by specifiers) j) i
+    ∙ two (depth.specifiers more true) (λ specifiers. tail_reader more specifiers) (λ specifiers u. external_by specifiers u) i
+
+pub external_exact : (more : ℕ) → Exact external_form more (one_external more)
+external_exact more = same_exact external_form more _ _ (external_reads more) (joint_exact parts_form external_of external_form more _ (parts_exact more) external_joint)
