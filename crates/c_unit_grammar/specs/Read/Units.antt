@@ -16,6 +16,10 @@ use Rattle.c_grammar.specs.Read.Depth as depth
 use Rattle.c_unit_grammar.specs.Read.Declarations.{named, start, next_declarator}
 use Rattle.c_unit_grammar.specs.Read.Statements.{within, block}
 
+-- a token is left
+abbrev pub goes_external : State → Bool
+goes_external i = is_some (peek i.1)
+
 module _ (more : ℕ) where
   -- ---- what stands behind the specifiers of an external declaration
 
@@ -56,9 +60,6 @@ module _ (more : ℕ) where
     choose (sees p.Semicolon) (no_declarators specifiers) (with_declarator specifiers)
 
   -- ---- units
-
-  abbrev pub goes_external : State → Bool
-  goes_external i = is_some (peek i.1)
 
   -- declarations and definitions to the end of the tokens, at least one
   unfoldable pub externals : Parser (List External)
