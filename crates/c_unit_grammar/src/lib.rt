@@ -7,4 +7,4 @@
 
 mod laws;
 
-pub use laws::examples;
+pub use laws::{examples, reads_units, unit_spelling_is_unique};

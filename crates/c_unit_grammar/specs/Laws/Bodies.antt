@@ -1,6 +1,6 @@
 -- Blocks and bodies are read exactly, where what is nested by one more is (C11 6.8.2, 6.8.4, 6.8.5).
-use Rattle.std.specs.Prelude.{◌≡◌, ℕ, zero, suc, ◌+◌, ◌≤◌, ◌<◌, max, Bool, true, false, not, ◌&&◌, ◌||◌, List, [], ◌∷◌, ◌++◌, length, map, Option, Some, None, is_some, is_none, Ok, refl}
-use Rattle.std.proofs.Common.{ap, sym, ◌∙◌, subst, cond, arith, append_assoc, append-nil, ◌⊎◌, inl, inr}
+use Rattle.std.specs.Prelude.{◌≡◌, ℕ, ◌+◌, ◌<◌, Bool, true, false, not, ◌&&◌, ◌||◌, List, [], ◌∷◌, ◌++◌, length, map, Option, Some, None, refl}
+use Rattle.std.proofs.Common.{ap, sym, ◌∙◌, subst, cond, arith, ◌⊎◌, inl, inr}
 use denote.Hole.Carrier.{out}
 use Rattle.c_tree.specs.declared.token.Pos.{Pos}
 use Rattle.c_tree.specs.declared.token.Punct.{Punct}
@@ -10,38 +10,31 @@ use Rattle.c_tree.specs.declared.token.Keyword.TheVariants as word
 use Rattle.c_tree.specs.declared.token.TokenKind.{TokenKind}
 use Rattle.c_tree.specs.declared.token.TokenKind.TheVariants as k
 use Rattle.c_tree.specs.declared.token.Token.{Token}
-use Rattle.c_tree.specs.declared.expression.Expr.{Expr}
-use Rattle.c_tree.specs.declared.declaration.Declaration.{Declaration}
 use Rattle.c_tree.specs.declared.statement.Condition.{Condition}
 use Rattle.c_tree.specs.declared.statement.Stmt.{Stmt, out-Stmt}
 use Rattle.c_tree.specs.declared.statement.Stmt.TheVariants as stmt
 use Rattle.c_tree.specs.declared.statement.Block.{Block, out-Block, roll-Block, roll-out-Block}
 use Rattle.c_tree.specs.declared.statement.BlockItem.{BlockItem, out-BlockItem}
-use Rattle.c_tree.specs.declared.statement.BlockItem.TheVariants as block_item
 use Rattle.c_tree.specs.declared.statement.BlockItem.TheOpen.{BlockItem-F}
 use Rattle.c_tree.specs.Layers.{BlockItemLayer}
-use Rattle.c_tree.specs.Spelling.Tokens.{punct, keyword, joined}
+use Rattle.c_tree.specs.Spelling.Tokens.{punct, keyword}
 use Rattle.c_tree.specs.Spelling.Statements.{stmt_spelling, block_spelling, block_item_spelling, stmt_spelling-Block, block_spelling-is, block_item_spelling-Declaration, block_item_spelling-Statement, block_item_spelling-Case, block_item_spelling-Default}
 use Rattle.c_tree.specs.Levels.Names.{Names, in_row}
-use Rattle.c_tree.specs.Levels.StatementFacts.{ItemFacts, BlockFacts, facts_of_block}
-use Rattle.c_tree.specs.Levels.OfStatements.{condition_level}
+use Rattle.c_tree.specs.Levels.StatementFacts.{BlockFacts, facts_of_block}
 use Rattle.c_tree.specs.Levels.Statements.{stmt_level, block_level, block_item_level, stmt_level-Block, block_level-is, block_item_level-Declaration, block_item_level-Statement}
-use Rattle.c_tree.specs.Nesting.OfTrees.{deepest}
-use Rattle.c_tree.specs.Nesting.OfStatements.{Depth, as_body}
+use Rattle.c_tree.specs.Nesting.OfStatements.{as_body}
 use Rattle.c_tree.specs.Nesting.Statements.{stmt_nesting, block_nesting, block_item_nesting, stmt_nesting-Block, stmt_nesting-Expression, stmt_nesting-If, stmt_nesting-While, stmt_nesting-Do, stmt_nesting-For, stmt_nesting-Switch, stmt_nesting-Break, stmt_nesting-Continue, stmt_nesting-Return, block_nesting-is}
 use Rattle.c_grammar.specs.Punctuators.{same_mark}
-use Rattle.c_grammar.specs.Input.{Tokens, State, Parser, peek, is_mark, sees, expect, opening, many, choose, enclosed}
+use Rattle.c_grammar.specs.Input.{Tokens, Parser, peek, is_mark, sees, expect, opening, many, choose, enclosed}
 use Rattle.c_grammar.specs.Read.Inner.{word_begins, begins_specifier}
-use Rattle.c_grammar.specs.Laws.Form.{Form, Got, Exact, Guarded, Node, Image, only, both, map_to, node_exact, same_exact, whole_exact, three, choose_guarded, guarded_exact, quieted}
+use Rattle.c_grammar.specs.Laws.Form.{Form, Exact, Guarded, Node, Image, only, both, node_exact, same_exact, whole_exact, three, choose_guarded, guarded_exact, quieted}
 use Rattle.c_grammar.specs.Laws.Lists.{Items, Kept, all_good, all_stop, list, list_exact, last_of, stop_made, added_in_row}
-use Rattle.c_grammar.specs.Laws.Single.{sees_mark}
 use Rattle.c_grammar.specs.Laws.Rows.{pre, pre_exact, post, post_exact, deeper, bracketed, bracketed_exact}
-use Rattle.c_grammar.specs.Laws.Behind.{both_true, both_are, peek_mark}
+use Rattle.c_grammar.specs.Laws.Behind.{both_true, both_are}
 use Rattle.c_grammar.specs.Laws.Starts.{peek_first}
-use Rattle.c_grammar.specs.Laws.SpecifierStarts.{StartsSpecifier}
 use Rattle.c_grammar.specs.Laws.Postfix.{deep_list}
 use Rattle.c_unit_grammar.specs.Keywords.{same_word}
-use Rattle.c_unit_grammar.specs.Read.Words.{is_word, sees_word, expect_word, StatementKind, Braced, Ifs, statement_kind}
+use Rattle.c_unit_grammar.specs.Read.Words.{is_word, sees_word, expect_word, StatementKind, Braced, statement_kind}
 use Rattle.c_unit_grammar.specs.Read.Statements.{Within, condition, is_in_block, goes_item, block, block_statement, body}
 use Rattle.c_unit_grammar.specs.Laws.Common.{word_form, expect_word_exact, enclosed_exact, known_exact}
 use Rattle.c_unit_grammar.specs.Laws.Shapes.{StmtShape, stmt_shape, ItemShape, item_shape}

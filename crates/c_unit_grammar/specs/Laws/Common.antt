@@ -1,6 +1,6 @@
 -- What several productions share: keywords, a choice by the kind of the next token, scopes, one bracket more, and a comma or
 -- a value where one stands.
-use Rattle.std.specs.Prelude.{◌≡◌, ℕ, zero, suc, ◌+◌, ◌≤◌, ◌<◌, max, Bool, true, false, [], ◌∷◌, ◌++◌, Option, Some, None, Ok, Err, refl}
+use Rattle.std.specs.Prelude.{◌≡◌, ℕ, zero, suc, ◌<◌, Bool, true, false, [], ◌∷◌, ◌++◌, Option, Some, None, Ok, refl}
 use Rattle.std.proofs.Common.{ap, sym, ◌∙◌, subst, cond, arith, append_assoc, append-nil, ◌⊎◌, inl, inr}
 use Rattle.c_tree.specs.declared.token.Pos.{Pos}
 use Rattle.c_tree.specs.declared.token.Punct.{Punct}
@@ -8,26 +8,24 @@ use Rattle.c_tree.specs.declared.token.Punct.TheVariants as p
 use Rattle.c_tree.specs.declared.token.Keyword.{Keyword}
 use Rattle.c_tree.specs.declared.token.TokenKind.{TokenKind}
 use Rattle.c_tree.specs.declared.token.TokenKind.TheVariants as k
-use Rattle.c_tree.specs.declared.token.Token.{Token}
 use Rattle.c_tree.specs.declared.expression.Expr.{Expr}
 use Rattle.c_tree.specs.Spelling.Tokens.{token, punct, keyword, comma_at}
 use Rattle.c_tree.specs.Spelling.Trees.{expr_spelling}
 use Rattle.c_tree.specs.Spelling.OfStatements.{value_spelling}
 use Rattle.c_tree.specs.Levels.Names.{Names}
-use Rattle.c_tree.specs.Levels.Productions.{comma, none, joins}
+use Rattle.c_tree.specs.Levels.Productions.{comma, joins}
 use Rattle.c_tree.specs.Levels.OfStatements.{value_level}
 use Rattle.c_tree.specs.Levels.Trees.{expr_level}
 use Rattle.c_tree.specs.Nesting.Trees.{expr_nesting}
 use Rattle.c_grammar.specs.Punctuators.{same_mark, same_mark-true}
-use Rattle.c_grammar.specs.Input.{Tokens, State, Outcome, Parser, and_then, ◌>>=◌, pure, choose, too_deep, peek, is_mark, sees, one, expect, enclosed}
+use Rattle.c_grammar.specs.Input.{Tokens, State, Outcome, Parser, and_then, pure, too_deep, peek, is_mark, sees, expect, enclosed}
 use Rattle.c_grammar.specs.Read.Specifiers.{optional_comma}
 use Rattle.c_grammar.specs.Ending.Trees.{expr_ending}
-use Rattle.c_grammar.specs.Laws.Form.{Form, Got, Exact, Guarded, Node, Image, only, bind_ok, ok_pair, subst2, both, map_to, node_exact, same_exact, whole_exact, two, choose_same, choose_map, either, either_exact, either_guarded, quieted, without, without_guarded}
+use Rattle.c_grammar.specs.Laws.Form.{Form, Got, Exact, Guarded, Node, Image, only, bind_ok, ok_pair, subst2, both, node_exact, same_exact, whole_exact, two, choose_same, choose_map, either, either_exact, either_guarded, quieted, without, without_guarded}
 use Rattle.c_grammar.specs.Laws.Single.{single, always, Picks, one_exact, mark_form, expect_exact, sees_mark}
 use Rattle.c_grammar.specs.Laws.Rows.{deeper, closed, closed_exact}
 use Rattle.c_grammar.specs.Laws.Behind.{expr_form, nat_le-true, nat_le-is, before_mark}
 use Rattle.c_grammar.specs.Laws.Starts.{peek_first, begins_by, begins_expression, first_is_not}
-use Rattle.c_grammar.specs.Laws.TypeNames.{unlike}
 use Rattle.c_unit_grammar.specs.Keywords.{same_word, same_word-true, same_word-itself}
 use Rattle.c_unit_grammar.specs.Read.Words.{is_word, sees_word, keyword_at, expect_word, dispatch}
 use Rattle.c_unit_grammar.specs.Read.Statements.{no_value, some_value, value_until}
@@ -90,7 +88,10 @@ enclosed_exact {A} F more p exact to from = record {
       let g = exact.sound names ts a mid b.1 in
       let w = ok_pair {A = A} a x (names, mid.1) s b.2 in
       subst2 (λ (x : A) (s : State). Got (quieted F) more names ts x s) w.0 w.1 (record {
-        good = g.good; nested = g.nested; spelt = g.spelt; seen = sym (append-nil names);
+        good = g.good;
+        nested = g.nested;
+        spelt = g.spelt;
+        seen = sym (append-nil names);
         stops = to names a mid.1 g.good (subst (λ n. F.stop a n mid.1) g.seen g.stops);
       });
   complete = λ names x rest g n s.

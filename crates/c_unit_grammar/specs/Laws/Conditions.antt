@@ -1,6 +1,6 @@
 -- Conditions and the brackets of `for` are read exactly (C11 6.8.4, 6.8.5).
-use Rattle.std.specs.Prelude.{◌≡◌, ℕ, zero, suc, ◌+◌, ◌<◌, max, Bool, true, false, not, ◌&&◌, List, [], ◌∷◌, ◌++◌, map, Option, Some, None, Ok, refl}
-use Rattle.std.proofs.Common.{ap, sym, ◌∙◌, subst, arith, append_assoc, append-nil, ◌⊎◌, inl, inr}
+use Rattle.std.specs.Prelude.{◌≡◌, ℕ, ◌+◌, max, Bool, true, false, not, [], ◌∷◌, ◌++◌, map, Option, Some, None, refl}
+use Rattle.std.proofs.Common.{ap, sym, ◌∙◌, subst, arith, append_assoc, ◌⊎◌, inl, inr}
 use Rattle.c_tree.specs.declared.token.Pos.{Pos}
 use Rattle.c_tree.specs.declared.token.Punct.{Punct}
 use Rattle.c_tree.specs.declared.token.Punct.TheVariants as p
@@ -8,7 +8,6 @@ use Rattle.c_tree.specs.declared.token.Keyword.{Keyword}
 use Rattle.c_tree.specs.declared.token.Keyword.TheVariants as word
 use Rattle.c_tree.specs.declared.token.TokenKind.{TokenKind}
 use Rattle.c_tree.specs.declared.token.TokenKind.TheVariants as k
-use Rattle.c_tree.specs.declared.specifier.Specifier.{Specifier}
 use Rattle.c_tree.specs.declared.expression.Expr.{Expr}
 use Rattle.c_tree.specs.declared.declaration.Declaration.{Declaration}
 use Rattle.c_tree.specs.declared.statement.Condition.{Condition}
@@ -16,28 +15,26 @@ use Rattle.c_tree.specs.declared.statement.ForHead.{ForHead}
 use Rattle.c_tree.specs.declared.statement.ForHead.TheVariants as head
 use Rattle.c_tree.specs.declared.statement.ForControl.{ForControl}
 use Rattle.c_tree.specs.Spelling.Tokens.{punct, joined}
-use Rattle.c_tree.specs.Spelling.Trees.{expr_spelling, specifier_spelling}
+use Rattle.c_tree.specs.Spelling.Trees.{expr_spelling}
 use Rattle.c_tree.specs.Spelling.Declarations.{init_declarator_spelling, declaration_spelling}
 use Rattle.c_tree.specs.Spelling.OfStatements.{value_spelling, condition_spelling, for_head_spelling, for_control_spelling}
 use Rattle.c_tree.specs.Levels.Names.{Names, is_typedef_name, in_row}
-use Rattle.c_tree.specs.Levels.Productions.{comma, none}
+use Rattle.c_tree.specs.Levels.Productions.{comma}
 use Rattle.c_tree.specs.Levels.Facts.{facts_of_specifiers}
 use Rattle.c_tree.specs.Levels.Trees.{expr_level, specifier_level}
 use Rattle.c_tree.specs.Levels.Declarations.{declaration_level}
 use Rattle.c_tree.specs.Levels.OfStatements.{value_level, condition_level, for_head_level, for_control_level}
-use Rattle.c_tree.specs.Nesting.Trees.{expr_nesting}
 use Rattle.c_tree.specs.Nesting.Declarations.{declaration_nesting}
 use Rattle.c_tree.specs.Nesting.OfStatements.{value_nesting, condition_nesting, for_head_nesting, for_control_nesting}
-use Rattle.c_grammar.specs.Punctuators.{same_mark}
-use Rattle.c_grammar.specs.Input.{Tokens, State, Parser, peek, is_mark, expect, opening}
+use Rattle.c_grammar.specs.Input.{Tokens, peek, expect, opening}
 use Rattle.c_grammar.specs.Read.Inner.{begins_specifier}
 use Rattle.c_grammar.specs.Read.Depth.{inside}
 use Rattle.c_grammar.specs.Ending.Trees.{expr_ending}
-use Rattle.c_grammar.specs.Laws.Form.{Form, Exact, Node, Image, only, both, map_to, node_exact, same_exact, whole_exact, three, four, choose_exact, seq, seq_exact}
+use Rattle.c_grammar.specs.Laws.Form.{Form, Exact, Node, Image, only, node_exact, same_exact, whole_exact, three, four, choose_exact, seq, seq_exact}
 use Rattle.c_grammar.specs.Laws.Single.{opening_form, opening_exact}
 use Rattle.c_grammar.specs.Laws.Rows.{pre, pre_exact, deeper, bracketed, bracketed_exact}
 use Rattle.c_grammar.specs.Laws.Behind.{expr_form, both_true, both_are, nat_le-true, nat_le-is, before_mark}
-use Rattle.c_grammar.specs.Laws.Starts.{peek_first, begins_by, begins_expression, first_is_not}
+use Rattle.c_grammar.specs.Laws.Starts.{peek_first, begins_expression, first_is_not}
 use Rattle.c_grammar.specs.Laws.SpecifierStarts.{StartsSpecifier, specifiers_start, starts_seen}
 use Rattle.c_grammar.specs.Laws.TypeNames.{form_is}
 use Rattle.c_grammar.specs.Laws.Depth.{inside_exact}

@@ -1,5 +1,5 @@
 -- Declarations are read exactly (C11 6.7).
-use Rattle.std.specs.Prelude.{◌≡◌, ℕ, zero, suc, ◌+◌, ◌≤◌, ◌<◌, max, Bool, true, false, not, ◌&&◌, ◌||◌, List, [], ◌∷◌, ◌++◌, length, map, Option, Some, None, is_some, Ok, refl}
+use Rattle.std.specs.Prelude.{◌≡◌, ℕ, zero, suc, ◌≤◌, ◌<◌, Bool, true, false, not, ◌||◌, List, [], ◌∷◌, ◌++◌, length, map, Option, Some, None, is_some, Ok, refl}
 use Rattle.std.proofs.Common.{ap, sym, ◌∙◌, subst, arith, append_assoc, append-nil, ◌⊎◌, inl, inr}
 use Rattle.c_tree.specs.declared.token.Pos.{Pos}
 use Rattle.c_tree.specs.declared.token.Punct.{Punct}
@@ -22,26 +22,25 @@ use Rattle.c_tree.specs.Spelling.Initialisers.{initialiser_spelling}
 use Rattle.c_tree.specs.Spelling.Declarations.{start_spelling, init_declarator_spelling, declaration_spelling}
 use Rattle.c_tree.specs.Levels.Names.{Names, With, in_row}
 use Rattle.c_tree.specs.Levels.Productions.{assignment, joins}
-use Rattle.c_tree.specs.Levels.Facts.{ListedFacts, listed, rest_listed, facts_of_specifiers, SpecifiersFacts, has_typedef, names_type, Beside, Declaring, declares, names_of}
+use Rattle.c_tree.specs.Levels.Facts.{ListedFacts, listed, rest_listed, facts_of_specifiers, SpecifiersFacts, names_type, Beside, Declaring, declares, names_of}
 use Rattle.c_tree.specs.Levels.Trees.{specifier_level, declarator_level}
-use Rattle.c_tree.specs.Levels.Initialisers.{initialiser_level}
 use Rattle.c_tree.specs.Levels.Declarations.{start_level, init_declarator_level, declaration_level}
 use Rattle.c_tree.specs.Nesting.OfTrees.{deepest}
-use Rattle.c_tree.specs.Nesting.Trees.{specifier_nesting, declarator_nesting}
+use Rattle.c_tree.specs.Nesting.Trees.{declarator_nesting}
 use Rattle.c_tree.specs.Nesting.Declarations.{start_nesting, init_declarator_nesting, declaration_nesting}
 use Rattle.c_grammar.specs.Punctuators.{same_mark}
 use Rattle.c_grammar.specs.Input.{Tokens, State, Outcome, Parser, and_then, ◌>>=◌, pure, choose, peek, is_mark, sees, expect, many, too_deep}
 use Rattle.c_grammar.specs.Read.Nodes.{name_type, have_typedef, is_nothing}
 use Rattle.c_grammar.specs.Read.Inner.{is_const}
 use Rattle.c_grammar.specs.Read.Depth as depth
-use Rattle.c_grammar.specs.Laws.Form.{Form, Got, Exact, Node, Image, Split, Joint, Guarded, only, bind_ok, ok_pair, subst2, both, map_to, node_exact, joint_exact, same_exact, whole_exact, choose_guarded, guarded_exact, two, three, bind_same, choose_map, choose_same, either, either_guarded, without, without_guarded, seq, seq_exact, open_seq, open_exact}
-use Rattle.c_grammar.specs.Laws.Lists.{Items, Kept, all_good, all_added, all_stop, chain, chain_exact, last_of, stop_made, added_in_row}
+use Rattle.c_grammar.specs.Laws.Form.{Form, Got, Exact, Node, Image, Joint, Guarded, only, bind_ok, ok_pair, subst2, both, map_to, node_exact, joint_exact, same_exact, whole_exact, choose_guarded, guarded_exact, two, three, bind_same, choose_map, choose_same, either, either_guarded, without, without_guarded, seq, seq_exact, open_seq, open_exact}
+use Rattle.c_grammar.specs.Laws.Lists.{Items, Kept, all_good, all_stop, chain, chain_exact, last_of, stop_made, added_in_row}
 use Rattle.c_grammar.specs.Laws.Single.{mark_form, expect_exact, sees_mark}
 use Rattle.c_grammar.specs.Laws.Rows.{pre, pre_exact, deeper, closed, closed_exact}
 use Rattle.c_grammar.specs.Laws.Behind.{both_true, both_are, peek_mark}
 use Rattle.c_grammar.specs.Laws.Starts.{Begins, begins_seen, peek_first}
 use Rattle.c_grammar.specs.Laws.Forms.{specifiers_form, declarator_form, parts_form, parts_of, is_no_name, pointer_items, behind_items, nothing_stop}
-use Rattle.c_grammar.specs.Laws.TypeNames.{Ending, unlike, specifiers_before, form_told, form_is, types_are}
+use Rattle.c_grammar.specs.Laws.TypeNames.{unlike, specifiers_before, form_told, form_is, types_are}
 use Rattle.c_grammar.specs.Laws.DeclaratorFacts.{FirstToken, declarator_first, named_is, nothing_middle}
 use Rattle.c_grammar.specs.Laws.Parameters.{declarator_any, typedef_is, specifiers_follow}
 use Rattle.c_grammar.specs.Laws.GrowSpecifiers.{mark_kind}
@@ -446,12 +445,15 @@ module _ (typed typedef : Bool) where
     by : (b : Bool) → is_nothing x.declarator ≡ b → (t : Token) × (ts : Tokens) × (declarator_spelling x.declarator ≡ t ∷ ts) × (joined (map init_declarator_spelling (x ∷ xs)) ≡ t ∷ (ts ++ (start_spelling x.start ++ joined (map init_declarator_spelling xs)))) × (is_mark p.Semicolon (Some t.kind) ≡ false)
     by true e = absurd (let a = declares_name typed x.declarator names g in let b = nothing_middle x.declarator e in let z : true ≡ false = sym b ∙ a in cc)
     by false e =
-        let f = declarator_first names x.declarator e in
-        (f.first, f.others, f.spelt,
-        ap (λ c. (comma_at c ++ (declarator_spelling x.declarator ++ start_spelling x.start)) ++ joined (map init_declarator_spelling xs)) c
-        ∙ append_assoc (declarator_spelling x.declarator) (start_spelling x.start) (joined (map init_declarator_spelling xs))
-        ∙ ap (λ l. l ++ (start_spelling x.start ++ joined (map init_declarator_spelling xs))) f.spelt,
-        no_mark _ f.first.kind f.kind)
+        let f = declarator_first names x.declarator e in (
+          f.first,
+          f.others,
+          f.spelt,
+          ap (λ c. (comma_at c ++ (declarator_spelling x.declarator ++ start_spelling x.start)) ++ joined (map init_declarator_spelling xs)) c
+              ∙ append_assoc (declarator_spelling x.declarator) (start_spelling x.start) (joined (map init_declarator_spelling xs))
+              ∙ ap (λ l. l ++ (start_spelling x.start ++ joined (map init_declarator_spelling xs))) f.spelt,
+          no_mark _ f.first.kind f.kind,
+        )
 
   no_semicolon : (names : Names) (xs : List InitDeclarator) (rest : Tokens) → Image row_of xs → row_form.good names xs → sees p.Semicolon (names, joined (map init_declarator_spelling xs) ++ rest) ≡ false
   no_semicolon names xs rest i =

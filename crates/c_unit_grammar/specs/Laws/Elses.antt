@@ -1,27 +1,24 @@
 -- Each `else` goes with the nearest `if`, and an `if` with its `else`s is read exactly (C11 6.8.4.1).
-use Rattle.std.specs.Prelude.{◌≡◌, ℕ, zero, suc, ◌+◌, ◌≤◌, ◌<◌, max, Bool, true, false, not, ◌&&◌, ◌||◌, List, [], ◌∷◌, ◌++◌, length, map, Option, Some, None, is_some, is_none, Ok, Err, refl}
+use Rattle.std.specs.Prelude.{◌≡◌, ℕ, zero, suc, ◌<◌, max, Bool, true, false, not, ◌&&◌, ◌||◌, List, [], ◌∷◌, ◌++◌, length, map, Option, Some, None, is_some, is_none, Ok, Err, refl}
 use Rattle.std.proofs.Common.{ap, sym, ◌∙◌, subst, cond, arith, append_assoc, append-nil, ◌⊎◌, inl, inr}
 use Rattle.c_tree.specs.declared.token.Pos.{Pos}
 use Rattle.c_tree.specs.declared.token.Keyword.TheVariants as word
-use Rattle.c_tree.specs.declared.token.Token.{Token}
 use Rattle.c_tree.specs.declared.statement.Condition.{Condition}
 use Rattle.c_tree.specs.declared.statement.IfHead.{IfHead}
 use Rattle.c_tree.specs.declared.statement.Stmt.{Stmt}
 use Rattle.c_tree.specs.declared.statement.Stmt.TheVariants as stmt
 use Rattle.c_tree.specs.declared.statement.Else.{Else, out-Else, roll-Else, roll-out-Else}
 use Rattle.c_tree.specs.Spelling.Tokens.{keyword, joined}
-use Rattle.c_tree.specs.Spelling.OfStatements.{condition_spelling, if_head_spelling}
+use Rattle.c_tree.specs.Spelling.OfStatements.{condition_spelling}
 use Rattle.c_tree.specs.Spelling.Statements.{stmt_spelling, else_spelling, else_spelling-is, stmt_spelling-If}
 use Rattle.c_tree.specs.Levels.Names.{Names, in_row}
-use Rattle.c_tree.specs.Levels.StatementFacts.{ElseFacts, chained, takes_more}
-use Rattle.c_tree.specs.Levels.OfStatements.{condition_level, if_head_level}
+use Rattle.c_tree.specs.Levels.StatementFacts.{chained, takes_more}
+use Rattle.c_tree.specs.Levels.OfStatements.{condition_level}
 use Rattle.c_tree.specs.Levels.Statements.{stmt_level, else_level, else_level-is, stmt_level-If}
-use Rattle.c_tree.specs.Nesting.OfTrees.{deepest}
-use Rattle.c_tree.specs.Nesting.OfStatements.{as_body}
-use Rattle.c_tree.specs.Nesting.Statements.{stmt_nesting, else_nesting, else_nesting-is, stmt_nesting-If}
+use Rattle.c_tree.specs.Nesting.Statements.{else_nesting, else_nesting-is, stmt_nesting-If}
 use Rattle.c_grammar.specs.Input.{Tokens, State, Outcome, Parser, and_then, ◌>>=◌, pure, refuse, choose, peek, loop, many_by}
-use Rattle.c_grammar.specs.Laws.Form.{Form, Got, Exact, Guarded, Node, Image, only, bind_ok, both, map_to, node_exact, same_exact, whole_exact, together, two, three, four, bind_same, choose_same, choose_map, either, either_guarded, quieted}
-use Rattle.c_grammar.specs.Laws.Lists.{Items, Kept, all_good, all_added, all_stop, list, chain, chain_exact, chain_stop, left, last_of, stop_goes, stop_last, stop_made, added_in_row}
+use Rattle.c_grammar.specs.Laws.Form.{Form, Exact, Guarded, Node, Image, only, both, map_to, node_exact, same_exact, whole_exact, two, three, four, bind_same, choose_same, choose_map, either, either_guarded, quieted}
+use Rattle.c_grammar.specs.Laws.Lists.{Items, Kept, all_good, chain, chain_exact, left, last_of, stop_goes, stop_last, stop_made}
 use Rattle.c_grammar.specs.Laws.Rows.{pre, pre_exact}
 use Rattle.c_grammar.specs.Laws.Behind.{both_true, both_are}
 use Rattle.c_unit_grammar.specs.Read.Words.{is_word, sees_word, expect_word}
@@ -29,7 +26,7 @@ use Rattle.c_unit_grammar.specs.Read.Statements.{Within, condition, goes_else, g
 use Rattle.c_unit_grammar.specs.Laws.Common.{word_form, expect_word_exact, sees_keyword}
 use Rattle.c_unit_grammar.specs.Laws.StatementFacts.{is_ifs, stmt_kind, if_told, takes, takes_told}
 use Rattle.c_unit_grammar.specs.Laws.Bodies.{no_else, stmt_form, body_form, Inside, body_exact, if_seen, governed, governed_exact}
-use Rattle.c_unit_grammar.specs.Laws.Loops.{in_scope, body_before}
+use Rattle.c_unit_grammar.specs.Laws.Loops.{in_scope}
 
 -- ---- `else` and what stands behind it
 
@@ -357,9 +354,11 @@ if_node = record {
   parts = λ names t h.
       let names1 : Names = names ++ (condition_level t.0.0.1 names).1 in
       let a = both_true (condition_level t.0.0.1 names).0 _ (sym (ap (λ r. r.0.good) (stmt_level-If t.0.0.0 t.0.0.1 t.0.1 t.1 names)) ∙ h) in
-      let b = both_true (stmt_level t.0.1 names1).0.good _ a.1 in
-      (((tt, a.0), b.0), chain_is true (takes t.0.1) names1 t.1 refl
-      (sym (ap (λ b. chained b (in_row (map else_level t.1) (names1 ++ [])).0) (takes_told t.0.1 names1) ∙ ap (λ n. chained (takes t.0.1) (in_row (map else_level t.1) n).0) (append-nil names1)) ∙ b.1));
+      let b = both_true (stmt_level t.0.1 names1).0.good _ a.1 in (
+        ((tt, a.0), b.0),
+        chain_is true (takes t.0.1) names1 t.1 refl
+            (sym (ap (λ b. chained b (in_row (map else_level t.1) (names1 ++ [])).0) (takes_told t.0.1 names1) ∙ ap (λ n. chained (takes t.0.1) (in_row (map else_level t.1) n).0) (append-nil names1)) ∙ b.1),
+      );
   nested = λ t. ap (λ d. d.alone) (stmt_nesting-If t.0.0.0 t.0.0.1 t.0.1 t.1) ∙ omega arith;
   spelt = λ t.
       stmt_spelling-If t.0.0.0 t.0.0.1 t.0.1 t.1

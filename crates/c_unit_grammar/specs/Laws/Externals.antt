@@ -1,5 +1,5 @@
 -- Declarations and definitions of a unit are read exactly (C11 6.9).
-use Rattle.std.specs.Prelude.{◌≡◌, ℕ, zero, suc, ◌+◌, ◌≤◌, ◌<◌, max, Bool, true, false, not, ◌&&◌, List, [], ◌∷◌, ◌++◌, length, map, Option, Some, None, is_some, Ok, refl}
+use Rattle.std.specs.Prelude.{◌≡◌, ℕ, ◌≤◌, ◌<◌, Bool, true, false, not, ◌&&◌, List, [], ◌∷◌, ◌++◌, map, Option, Some, None, is_some, Ok, refl}
 use Rattle.std.proofs.Common.{ap, sym, ◌∙◌, subst, cond, arith, append_assoc, append-nil, ◌⊎◌, inl, inr}
 use Rattle.c_tree.specs.declared.token.Pos.{Pos}
 use Rattle.c_tree.specs.declared.token.Punct.{Punct}
@@ -9,37 +9,33 @@ use Rattle.c_tree.specs.declared.specifier.Specifier.{Specifier}
 use Rattle.c_tree.specs.declared.declarator.Declarator.{Declarator}
 use Rattle.c_tree.specs.declared.declaration.Start.{Start}
 use Rattle.c_tree.specs.declared.declaration.InitDeclarator.{InitDeclarator}
-use Rattle.c_tree.specs.declared.declaration.Declaration.{Declaration}
 use Rattle.c_tree.specs.declared.statement.Block.{Block, out-Block}
-use Rattle.c_tree.specs.declared.unit.Definition.{Definition}
 use Rattle.c_tree.specs.declared.unit.External.{External}
 use Rattle.c_tree.specs.declared.unit.External.TheVariants as external
 use Rattle.c_tree.specs.Spelling.Tokens.{punct, joined}
 use Rattle.c_tree.specs.Spelling.Trees.{specifier_spelling, declarator_spelling}
-use Rattle.c_tree.specs.Spelling.Declarations.{start_spelling, init_declarator_spelling, declaration_spelling}
+use Rattle.c_tree.specs.Spelling.Declarations.{start_spelling, init_declarator_spelling}
 use Rattle.c_tree.specs.Spelling.Statements.{block_spelling, block_spelling-is}
-use Rattle.c_tree.specs.Spelling.Units.{definition_spelling, external_spelling}
+use Rattle.c_tree.specs.Spelling.Units.{external_spelling}
 use Rattle.c_tree.specs.Levels.Names.{Names, With as Told, by, leads_to, in_row, declaring}
 use Rattle.c_tree.specs.Levels.Productions.{assignment, joins}
-use Rattle.c_tree.specs.Levels.Facts.{SpecifiersFacts, facts_of_specifiers, names_type, has_typedef, Beside, DeclaratorFacts, Declaring, declares, declared}
+use Rattle.c_tree.specs.Levels.Facts.{SpecifiersFacts, names_type, Beside, Declaring, declares, declared}
 use Rattle.c_tree.specs.Levels.Trees.{specifier_level, declarator_level}
-use Rattle.c_tree.specs.Levels.Declarations.{start_level, declaration_level}
+use Rattle.c_tree.specs.Levels.Declarations.{start_level}
 use Rattle.c_tree.specs.Levels.Statements.{block_level}
-use Rattle.c_tree.specs.Levels.Units.{is_listing, parameters_of, body_level, definition_level, external_level}
-use Rattle.c_tree.specs.Nesting.OfTrees.{deepest}
+use Rattle.c_tree.specs.Levels.Units.{is_listing, parameters_of, body_level, external_level}
 use Rattle.c_tree.specs.Nesting.Statements.{block_nesting}
-use Rattle.c_tree.specs.Nesting.Declarations.{start_nesting, init_declarator_nesting}
 use Rattle.c_tree.specs.Nesting.Units.{external_nesting}
 use Rattle.c_grammar.specs.Punctuators.{same_mark}
-use Rattle.c_grammar.specs.Input.{Tokens, State, Outcome, Parser, and_then, ◌>>=◌, ◌>>◌, pure, choose, peek, is_mark, sees, expect, many, declare, enclosed}
+use Rattle.c_grammar.specs.Input.{Tokens, State, Outcome, Parser, and_then, ◌>>=◌, pure, choose, peek, is_mark, sees, expect, many}
 use Rattle.c_grammar.specs.Read.Nodes.{name_type, have_typedef}
 use Rattle.c_grammar.specs.Read.Depth as depth
 use Rattle.c_grammar.specs.Laws.Form.{Form, Got, Exact, Guarded, Split, Joint, bind_ok, ok_pair, subst2, both, map_to, joint_exact, same_exact, two, three, bind_same, choose_same, choose_map, either, either_exact, seq, seq_exact}
-use Rattle.c_grammar.specs.Laws.Lists.{Items, all_good, all_added, chain, chain_exact, chain_stop, last_of, stop_made, added_in_row}
+use Rattle.c_grammar.specs.Laws.Lists.{all_good, all_added, chain, chain_exact, chain_stop, last_of, stop_made}
 use Rattle.c_grammar.specs.Laws.Single.{mark_form, expect_exact, sees_mark}
 use Rattle.c_grammar.specs.Laws.Rows.{closed, closed_exact}
 use Rattle.c_grammar.specs.Laws.Behind.{both_true, both_are}
-use Rattle.c_grammar.specs.Laws.Starts.{Begins, peek_first}
+use Rattle.c_grammar.specs.Laws.Starts.{peek_first}
 use Rattle.c_grammar.specs.Laws.Forms.{specifiers_form, declarator_form}
 use Rattle.c_grammar.specs.Laws.TypeNames.{unlike, specifiers_before, form_told, form_is, types_are}
 use Rattle.c_grammar.specs.Laws.Parameters.{typedef_is, specifiers_follow}
@@ -49,7 +45,7 @@ use Rattle.c_unit_grammar.specs.Read.Statements.{within, block}
 use Rattle.c_unit_grammar.specs.Read.Units.{function_body, definition, declaration_from, no_declarators, begins_body, with_declarator, one_external}
 use Rattle.c_unit_grammar.specs.Laws.Common.{known_exact}
 use Rattle.c_unit_grammar.specs.Laws.Initialisers.{initialiser_before}
-use Rattle.c_unit_grammar.specs.Laws.Declarations.{named_form, named_exact, declares_name, Apart, comma_apart, assign_apart, semicolon_apart, brace_apart, named_before, start_stop, start_form, start_exact, IsComma, level, items, items_kept, item_before, good_declares, comma_begins, next_exact, first_token, row_of, row_node, rows, declared_by, declaration_form, declaration_parts, declaration_node, facts}
+use Rattle.c_unit_grammar.specs.Laws.Declarations.{named_form, named_exact, declares_name, Apart, comma_apart, assign_apart, semicolon_apart, brace_apart, named_before, start_stop, start_form, start_exact, level, items, items_kept, item_before, good_declares, comma_begins, next_exact, first_token, row_node, rows, declared_by, declaration_node, facts}
 use Rattle.c_unit_grammar.specs.Laws.Bodies.{block_form, block_exact}
 use Rattle.c_unit_grammar.specs.Laws.Statements.{within_exact}
 

@@ -1,6 +1,6 @@
 -- Initialisers are read exactly (C11 6.7.9).
-use Rattle.std.specs.Prelude.{◌≡◌, ℕ, zero, suc, ◌+◌, ◌<◌, max, Bool, true, false, not, ◌&&◌, nat_le, List, [], ◌∷◌, ◌++◌, length, map, Option, Some, None, is_some, Ok, refl}
-use Rattle.std.proofs.Common.{ap, sym, ◌∙◌, subst, arith, append_assoc, append-nil, ◌⊎◌, inl, inr}
+use Rattle.std.specs.Prelude.{◌≡◌, ℕ, zero, suc, ◌+◌, ◌<◌, Bool, true, false, not, ◌&&◌, List, [], ◌∷◌, ◌++◌, length, map, Option, Some, None, is_some, refl}
+use Rattle.std.proofs.Common.{ap, sym, ◌∙◌, subst, arith, append_assoc, ◌⊎◌, inl, inr}
 use Rattle.c_tree.specs.declared.token.Pos.{Pos}
 use Rattle.c_tree.specs.declared.token.Punct.{Punct}
 use Rattle.c_tree.specs.declared.token.Punct.TheVariants as p
@@ -11,30 +11,27 @@ use Rattle.c_tree.specs.declared.expression.Expr.{Expr}
 use Rattle.c_tree.specs.declared.declaration.Initialiser.{Initialiser, out-Initialiser, out-roll-Initialiser}
 use Rattle.c_tree.specs.declared.declaration.Initialiser.TheVariants as init
 use Rattle.c_tree.specs.declared.declaration.Initialiser.TheOpen.{Initialiser-F}
-use Rattle.c_tree.specs.declared.declaration.InitialiserItem.{InitialiserItem, out-InitialiserItem, roll-InitialiserItem, roll-out-InitialiserItem, out-roll-InitialiserItem}
+use Rattle.c_tree.specs.declared.declaration.InitialiserItem.{InitialiserItem, out-InitialiserItem, roll-InitialiserItem, roll-out-InitialiserItem}
 use Rattle.c_tree.specs.Layers.{InitialiserLayer}
 use Rattle.c_tree.specs.Spelling.Tokens.{punct, comma_at, joined}
-use Rattle.c_tree.specs.Spelling.Trees.{expr_spelling}
 use Rattle.c_tree.specs.Spelling.Initialisers.{initialiser_spelling, initialiser_item_spelling, initialiser_spelling-Expression, initialiser_spelling-List, initialiser_item_spelling-is}
 use Rattle.c_tree.specs.Levels.Names.{Names, in_row}
 use Rattle.c_tree.specs.Levels.Productions.{assignment, none, joins}
-use Rattle.c_tree.specs.Levels.Facts.{filled, ListedFacts, listed, rest_listed}
+use Rattle.c_tree.specs.Levels.Facts.{ListedFacts, rest_listed}
 use Rattle.c_tree.specs.Levels.Trees.{expr_level}
 use Rattle.c_tree.specs.Levels.Initialisers.{initialiser_level, initialiser_item_level, initialiser_level-Expression, initialiser_level-List, initialiser_item_level-is}
-use Rattle.c_tree.specs.Nesting.OfTrees.{deepest}
-use Rattle.c_tree.specs.Nesting.Trees.{expr_nesting}
 use Rattle.c_tree.specs.Nesting.Initialisers.{initialiser_nesting, initialiser_item_nesting, initialiser_nesting-Expression, initialiser_nesting-List, initialiser_item_nesting-is}
 use Rattle.c_grammar.specs.Punctuators.{same_mark}
-use Rattle.c_grammar.specs.Input.{Tokens, State, Parser, peek, behind, is_mark, sees, expect, opening, many, too_deep}
+use Rattle.c_grammar.specs.Input.{Tokens, Parser, peek, behind, is_mark, sees, expect, opening, many, too_deep}
 use Rattle.c_grammar.specs.Read.Specifiers.{optional_comma}
 use Rattle.c_grammar.specs.Read.Depth.{expression}
 use Rattle.c_grammar.specs.Ending.Trees.{expr_ending}
-use Rattle.c_grammar.specs.Laws.Form.{Form, Exact, Node, Image, only, both, map_to, node_exact, same_exact, whole_exact, choose_exact, two, five_pair}
-use Rattle.c_grammar.specs.Laws.Lists.{Items, Kept, all_good, all_added, chain, chain_exact, chain_stop, last_of, stop_made, added_in_row}
+use Rattle.c_grammar.specs.Laws.Form.{Form, Exact, Node, Image, only, both, node_exact, same_exact, whole_exact, choose_exact, two, five_pair}
+use Rattle.c_grammar.specs.Laws.Lists.{Items, Kept, all_good, chain, chain_exact, last_of, stop_made, added_in_row}
 use Rattle.c_grammar.specs.Laws.Single.{mark_form, expect_exact, opening_form, opening_exact, sees_mark}
 use Rattle.c_grammar.specs.Laws.Rows.{pre, pre_exact, post, post_exact, deeper, closed, closed_exact}
-use Rattle.c_grammar.specs.Laws.Behind.{goes_on, expr_form, both_true, both_are, nat_le-true, nat_le-is, before_mark, before_end, peek_mark}
-use Rattle.c_grammar.specs.Laws.Starts.{Begins, begins_seen, peek_first, begins_by, begins_expression, starts, first_is_not}
+use Rattle.c_grammar.specs.Laws.Behind.{goes_on, expr_form, both_true, both_are, nat_le-true, nat_le-is, before_mark}
+use Rattle.c_grammar.specs.Laws.Starts.{peek_first, begins_by, begins_expression, starts, first_is_not}
 use Rattle.c_grammar.specs.Laws.Postfix.{deep_list}
 use Rattle.c_grammar.specs.Laws.TypeNames.{unlike}
 use Rattle.c_grammar.specs.Laws.Depth.{assignment_read}
@@ -209,7 +206,7 @@ comma_begins : (x : InitialiserItem) (names : Names) → (item_form IsComma).goo
 comma_begins x names g =
     let i = next_is x (out-InitialiserItem x).comma refl g.0 in
     let s = initialiser_starts (value_in x) names g.1 in
-    record { at = i.0.0; first = s.first; others = s.others; no_brace = s.no_brace; spelt = initialiser_item_spelling-is x ∙ (by (out-InitialiserItem x).comma i.0.0 (sym (ap (λ y. (out-InitialiserItem y).comma) (sym i.1)) ) s.spelt) }
+    record { at = i.0.0; first = s.first; others = s.others; no_brace = s.no_brace; spelt = initialiser_item_spelling-is x ∙ (by (out-InitialiserItem x).comma i.0.0 (sym (ap (λ y. (out-InitialiserItem y).comma) (sym i.1))) s.spelt) }
   where
     by : (c : Option Pos) (at : Pos) → Some at ≡ c → {a b : Tokens} → a ≡ b → comma_at c ++ a ≡ punct p.Comma at ∷ b
     by c at e {a} {b} f = ap (λ c. comma_at c ++ a) (sym e) ∙ ap (λ l. punct p.Comma at ∷ l) f

@@ -1,5 +1,5 @@
 -- Statements without `else` are read exactly, where what is nested by one more is (C11 6.8.3 to 6.8.6).
-use Rattle.std.specs.Prelude.{◌≡◌, ℕ, zero, suc, ◌+◌, max, Bool, true, false, not, ◌&&◌, List, [], ◌∷◌, ◌++◌, map, Option, Some, None, Ok, refl}
+use Rattle.std.specs.Prelude.{◌≡◌, ℕ, Bool, true, false, ◌&&◌, [], ◌∷◌, ◌++◌, Option, Some, None, Ok, refl}
 use Rattle.std.proofs.Common.{ap, sym, ◌∙◌, subst, arith, append_assoc, append-nil}
 use Rattle.c_tree.specs.declared.token.Pos.{Pos}
 use Rattle.c_tree.specs.declared.token.Punct.TheVariants as p
@@ -13,16 +13,16 @@ use Rattle.c_tree.specs.declared.statement.Stmt.TheVariants as stmt
 use Rattle.c_tree.specs.declared.statement.Block.{Block}
 use Rattle.c_tree.specs.Spelling.Tokens.{punct, keyword}
 use Rattle.c_tree.specs.Spelling.OfStatements.{condition_spelling}
-use Rattle.c_tree.specs.Spelling.Statements.{stmt_spelling, block_spelling, stmt_spelling-Expression, stmt_spelling-While, stmt_spelling-Do, stmt_spelling-For, stmt_spelling-Switch, stmt_spelling-Break, stmt_spelling-Continue, stmt_spelling-Return}
+use Rattle.c_tree.specs.Spelling.Statements.{stmt_spelling, stmt_spelling-Expression, stmt_spelling-While, stmt_spelling-Do, stmt_spelling-For, stmt_spelling-Switch, stmt_spelling-Break, stmt_spelling-Continue, stmt_spelling-Return}
 use Rattle.c_tree.specs.Levels.Names.{Names}
 use Rattle.c_tree.specs.Levels.Productions.{comma}
-use Rattle.c_tree.specs.Levels.OfStatements.{condition_level, for_control_level, value_level}
-use Rattle.c_tree.specs.Levels.Statements.{stmt_level, block_level, stmt_level-Expression, stmt_level-While, stmt_level-Do, stmt_level-For, stmt_level-Switch, stmt_level-Break, stmt_level-Continue, stmt_level-Return}
+use Rattle.c_tree.specs.Levels.OfStatements.{condition_level, for_control_level}
+use Rattle.c_tree.specs.Levels.Statements.{stmt_level, stmt_level-Expression, stmt_level-While, stmt_level-Do, stmt_level-For, stmt_level-Switch, stmt_level-Break, stmt_level-Continue, stmt_level-Return}
 use Rattle.c_tree.specs.Nesting.OfStatements.{value_nesting}
 use Rattle.c_tree.specs.Nesting.Statements.{stmt_nesting-Expression, stmt_nesting-While, stmt_nesting-Do, stmt_nesting-For, stmt_nesting-Switch, stmt_nesting-Break, stmt_nesting-Continue, stmt_nesting-Return}
-use Rattle.c_grammar.specs.Input.{Tokens, State, Outcome, Parser, and_then, peek, expect, enclosed}
+use Rattle.c_grammar.specs.Input.{Tokens, State, Parser, and_then, peek, expect, enclosed}
 use Rattle.c_grammar.specs.Read.Depth.{expression}
-use Rattle.c_grammar.specs.Laws.Form.{Form, Exact, Node, Image, only, both, map_to, node_exact, same_exact, two, three, five, quieted, enclosed_map}
+use Rattle.c_grammar.specs.Laws.Form.{Form, Exact, Node, Image, only, map_to, node_exact, same_exact, two, three, five, quieted, enclosed_map}
 use Rattle.c_grammar.specs.Laws.Single.{mark_form, expect_exact}
 use Rattle.c_grammar.specs.Laws.Rows.{pre, pre_exact, post, post_exact, closed, closed_exact}
 use Rattle.c_grammar.specs.Laws.Behind.{both_true, both_are}

@@ -1,6 +1,6 @@
 -- What is told of a statement: its kind, its first token, and whether an `else` behind it would belong to it.
-use Rattle.std.specs.Prelude.{◌≡◌, ℕ, zero, suc, ◌+◌, ◌≤◌, ◌<◌, Bool, true, false, not, ◌&&◌, ◌||◌, List, [], ◌∷◌, ◌++◌, length, map, Option, Some, None, is_some, is_none, refl}
-use Rattle.std.proofs.Common.{ap, sym, ◌∙◌, subst, cond, arith, append_assoc, length-append}
+use Rattle.std.specs.Prelude.{◌≡◌, ℕ, zero, suc, ◌≤◌, ◌<◌, Bool, true, false, not, ◌&&◌, ◌||◌, List, [], ◌∷◌, ◌++◌, length, map, Option, Some, None, is_none, refl}
+use Rattle.std.proofs.Common.{ap, sym, ◌∙◌, subst, cond, arith, length-append}
 use denote.Hole.Carrier.{out}
 use Rattle.c_tree.specs.declared.token.Pos.{Pos}
 use Rattle.c_tree.specs.declared.token.Punct.{Punct}
@@ -12,31 +12,26 @@ use Rattle.c_tree.specs.declared.token.TokenKind.{TokenKind}
 use Rattle.c_tree.specs.declared.token.TokenKind.TheVariants as k
 use Rattle.c_tree.specs.declared.token.Token.{Token}
 use Rattle.c_tree.specs.declared.expression.Expr.{Expr}
-use Rattle.c_tree.specs.declared.statement.Condition.{Condition}
 use Rattle.c_tree.specs.declared.statement.IfHead.{IfHead}
-use Rattle.c_tree.specs.declared.statement.ForControl.{ForControl}
 use Rattle.c_tree.specs.declared.statement.Stmt.{Stmt, out-Stmt}
-use Rattle.c_tree.specs.declared.statement.Stmt.TheVariants as stmt
-use Rattle.c_tree.specs.declared.statement.Block.{Block, out-Block}
+use Rattle.c_tree.specs.declared.statement.Block.{out-Block}
 use Rattle.c_tree.specs.declared.statement.Else.{Else, out-Else}
 use Rattle.c_tree.specs.declared.statement.BlockItem.TheOpen.{Stmt-F}
 use Rattle.c_tree.specs.Layers.{StmtLayer}
 use Rattle.c_tree.specs.Spelling.Tokens.{punct, keyword, joined}
-use Rattle.c_tree.specs.Spelling.Trees.{expr_spelling}
 use Rattle.c_tree.specs.Spelling.OfStatements.{condition_spelling, for_control_spelling, if_head_spelling, value_spelling}
-use Rattle.c_tree.specs.Spelling.Statements.{stmt_spelling, block_spelling, else_spelling, stmt_spelling-Block, stmt_spelling-Expression, stmt_spelling-If, stmt_spelling-While, stmt_spelling-Do, stmt_spelling-For, stmt_spelling-Switch, stmt_spelling-Break, stmt_spelling-Continue, stmt_spelling-Return, block_spelling-is, else_spelling-is}
+use Rattle.c_tree.specs.Spelling.Statements.{stmt_spelling, else_spelling, stmt_spelling-Block, stmt_spelling-Expression, stmt_spelling-If, stmt_spelling-While, stmt_spelling-Do, stmt_spelling-For, stmt_spelling-Switch, stmt_spelling-Break, stmt_spelling-Continue, stmt_spelling-Return, block_spelling-is, else_spelling-is}
 use Rattle.c_tree.specs.Levels.Names.{Names, is_typedef_name, in_row}
-use Rattle.c_tree.specs.Levels.Productions.{comma, none}
-use Rattle.c_tree.specs.Levels.StatementFacts.{StatementFacts, ElseFacts, takes_more}
+use Rattle.c_tree.specs.Levels.Productions.{comma}
+use Rattle.c_tree.specs.Levels.StatementFacts.{takes_more}
 use Rattle.c_tree.specs.Levels.OfStatements.{condition_level, for_control_level, if_head_level, value_level}
 use Rattle.c_tree.specs.Levels.Trees.{expr_level}
 use Rattle.c_tree.specs.Levels.Statements.{stmt_level, else_level, stmt_level-Block, stmt_level-Expression, stmt_level-If, stmt_level-While, stmt_level-Do, stmt_level-For, stmt_level-Switch, stmt_level-Break, stmt_level-Continue, stmt_level-Return, else_level-is}
 use Rattle.c_grammar.specs.Punctuators.{same_mark}
 use Rattle.c_grammar.specs.Input.{Tokens, peek, is_mark}
-use Rattle.c_grammar.specs.Read.Inner.{begins_specifier}
 use Rattle.c_grammar.specs.Laws.Behind.{nat_le-true}
 use Rattle.c_grammar.specs.Laws.Starts.{peek_first, begins_by, begins_expression, starts}
-use Rattle.c_unit_grammar.specs.Read.Words.{is_word, StatementKind, Braced, Ifs, Whiles, Does, Fors, Switches, Breaks, Continues, Returns, Expressed, statement_kind, ItemKind, Declares, States, label_kind, item_kind}
+use Rattle.c_unit_grammar.specs.Read.Words.{is_word, StatementKind, Braced, Ifs, Whiles, Does, Fors, Switches, Breaks, Continues, Returns, Expressed, statement_kind, Declares, States, label_kind, item_kind}
 use Rattle.c_unit_grammar.specs.Laws.Shapes.{StmtShape, stmt_shape}
 
 -- ---- kinds

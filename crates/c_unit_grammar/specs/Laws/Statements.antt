@@ -1,14 +1,11 @@
 -- Statements and items of blocks are read exactly, at every depth (C11 6.8).
-use Rattle.std.specs.Prelude.{◌≡◌, ℕ, zero, suc, ◌+◌, Bool, true, false, not, ◌&&◌, ◌||◌, List, [], ◌∷◌, ◌++◌, Option, Some, None, Ok, refl}
-use Rattle.std.proofs.Common.{ap, sym, ◌∙◌, subst, cond, arith, append_assoc, append-nil}
+use Rattle.std.specs.Prelude.{◌≡◌, ℕ, zero, suc, Bool, true, false, not, ◌||◌, ◌∷◌, ◌++◌, Option, Ok, refl}
+use Rattle.std.proofs.Common.{ap, sym, ◌∙◌, subst, cond, arith}
 use denote.Hole.Carrier.{out}
 use Rattle.c_tree.specs.declared.token.Pos.{Pos}
-use Rattle.c_tree.specs.declared.token.Punct.{Punct}
 use Rattle.c_tree.specs.declared.token.Punct.TheVariants as p
-use Rattle.c_tree.specs.declared.token.Keyword.{Keyword}
 use Rattle.c_tree.specs.declared.token.Keyword.TheVariants as word
 use Rattle.c_tree.specs.declared.token.TokenKind.{TokenKind}
-use Rattle.c_tree.specs.declared.token.TokenKind.TheVariants as k
 use Rattle.c_tree.specs.declared.expression.Expr.{Expr}
 use Rattle.c_tree.specs.declared.declaration.Declaration.{Declaration}
 use Rattle.c_tree.specs.declared.statement.Stmt.{Stmt, out-Stmt}
@@ -17,27 +14,25 @@ use Rattle.c_tree.specs.declared.statement.BlockItem.{BlockItem, out-BlockItem}
 use Rattle.c_tree.specs.declared.statement.BlockItem.TheVariants as block_item
 use Rattle.c_tree.specs.declared.statement.BlockItem.TheOpen.{BlockItem-F}
 use Rattle.c_tree.specs.Layers.{BlockItemLayer}
-use Rattle.c_tree.specs.Spelling.Tokens.{punct, keyword}
-use Rattle.c_tree.specs.Spelling.Trees.{expr_spelling}
+use Rattle.c_tree.specs.Spelling.Tokens.{keyword}
 use Rattle.c_tree.specs.Spelling.Declarations.{declaration_spelling}
-use Rattle.c_tree.specs.Spelling.Statements.{stmt_spelling, block_item_spelling, block_item_spelling-Declaration, block_item_spelling-Statement, block_item_spelling-Case, block_item_spelling-Default}
+use Rattle.c_tree.specs.Spelling.Statements.{block_item_spelling, block_item_spelling-Declaration, block_item_spelling-Statement, block_item_spelling-Case, block_item_spelling-Default}
 use Rattle.c_tree.specs.Levels.Names.{Names}
 use Rattle.c_tree.specs.Levels.Productions.{conditional}
 use Rattle.c_tree.specs.Levels.Trees.{expr_level}
-use Rattle.c_tree.specs.Levels.Statements.{stmt_level, block_item_level, block_item_level-Declaration, block_item_level-Statement, block_item_level-Case, block_item_level-Default}
+use Rattle.c_tree.specs.Levels.Statements.{block_item_level, block_item_level-Declaration, block_item_level-Statement, block_item_level-Case, block_item_level-Default}
 use Rattle.c_tree.specs.Nesting.Statements.{block_item_nesting-Declaration, block_item_nesting-Statement, block_item_nesting-Case, block_item_nesting-Default}
-use Rattle.c_grammar.specs.Input.{Tokens, State, Parser, ◌>>=◌, pure, refuse, choose, too_deep, peek, expect}
+use Rattle.c_grammar.specs.Input.{Tokens, State, Parser, refuse, too_deep, peek, expect}
 use Rattle.c_grammar.specs.Read.Inner.{begins_specifier}
 use Rattle.c_grammar.specs.Read.Depth.{expression}
 use Rattle.c_grammar.specs.Ending.Trees.{expr_ending}
-use Rattle.c_grammar.specs.Laws.Form.{Form, Exact, Guarded, Node, Image, only, both, map_to, node_exact, same_exact, two, three}
+use Rattle.c_grammar.specs.Laws.Form.{Form, Exact, Guarded, Node, Image, only, node_exact, same_exact, two, three}
 use Rattle.c_grammar.specs.Laws.Single.{mark_form, expect_exact}
-use Rattle.c_grammar.specs.Laws.Rows.{pre, pre_exact, deeper, closed, closed_exact}
+use Rattle.c_grammar.specs.Laws.Rows.{pre, pre_exact, closed, closed_exact}
 use Rattle.c_grammar.specs.Laws.Behind.{expr_form, nat_le-true, nat_le-is, before_mark}
-use Rattle.c_grammar.specs.Laws.Starts.{peek_first}
 use Rattle.c_grammar.specs.Laws.SpecifierStarts.{starts_seen}
 use Rattle.c_grammar.specs.Laws.Depth.{conditional_read}
-use Rattle.c_unit_grammar.specs.Read.Words.{expect_word, dispatch, StatementKind, Braced, Ifs, Whiles, Does, Fors, Switches, Breaks, Continues, Returns, Expressed, statement_kind, begins_statement, ItemKind, Declares, Cases, Defaults, States, label_kind, item_kind}
+use Rattle.c_unit_grammar.specs.Read.Words.{expect_word, StatementKind, Braced, Ifs, Whiles, Does, Fors, Switches, Breaks, Continues, Returns, Expressed, statement_kind, begins_statement, ItemKind, Declares, Cases, Defaults, States, label_kind, item_kind}
 use Rattle.c_unit_grammar.specs.Read.Declarations.{declaration}
 use Rattle.c_unit_grammar.specs.Read.Statements.{Within, of_kind, statement, declaration_item, case_item, default_item, statement_item, item_of_kind, item, nowhere, within}
 use Rattle.c_unit_grammar.specs.Laws.Common.{word_form, expect_word_exact, peek_word, dispatch_exact, known_exact, raise, none_deeper}

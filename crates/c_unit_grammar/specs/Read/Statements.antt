@@ -7,7 +7,6 @@ use Rattle.c_tree.specs.declared.token.Keyword.TheVariants as word
 use Rattle.c_tree.specs.declared.token.TokenKind.{TokenKind}
 use Rattle.c_tree.specs.declared.expression.Expr.{Expr}
 use Rattle.c_tree.specs.declared.statement.Condition.{Condition}
-use Rattle.c_tree.specs.declared.statement.IfHead.{IfHead}
 use Rattle.c_tree.specs.declared.statement.ForHead.{ForHead}
 use Rattle.c_tree.specs.declared.statement.ForHead.TheVariants as head
 use Rattle.c_tree.specs.declared.statement.ForControl.{ForControl}
