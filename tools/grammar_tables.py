@@ -2,9 +2,9 @@
 """Writes what the grammar has for each punctuator and for each kind of node.
 
 Run from the top of the repository: `python3 tools/grammar_tables.py`. It writes the files of
-crates/c_grammar/specs that begin with the line GENERATED below: the numbers of the punctuators, the
-cases of each enum of trees, and the fold that tells how a tree ends, from the tables of
-tools/tree_equations.py.
+crates/c_grammar/specs and crates/c_unit_grammar/specs that begin with the line GENERATED below: the
+numbers of the punctuators and of the keywords, the cases of each enum of trees, and the fold that tells
+how a tree ends, from the tables of tools/tree_equations.py.
 """
 
 import re
@@ -18,35 +18,44 @@ def variants(name):
     return re.findall(r"^    (\w+),$", body, re.M)
 
 
-def punctuators():
-    marks = variants("Punct")
+def numbers(kind, short, same, item, what):
+    """The file that tells whether two of an enum without fields are one."""
+    marks = variants(kind)
     out = [
         "-- Written by tools/grammar_tables.py.",
-        "-- Whether two punctuators are one, by a number for each.",
+        f"-- Whether two {what} are one, by a number for each.",
         "use Rattle.std.specs.Prelude.{◌≡◌, ℕ, Bool, true, ◌==◌, if◌then◌else◌, refl}",
         "use Rattle.std.proofs.Common.{ap, sym, ◌∙◌, arith}",
         "use Rattle.std.proofs.lemmas.Bool.Decides.{nat_tests}",
-        "use Rattle.c_tree.specs.declared.token.Punct.{Punct}",
-        "use Rattle.c_tree.specs.declared.token.Punct.TheVariants as p",
-        "", "abbrev pub code : Punct → ℕ",
+        f"use Rattle.c_tree.specs.declared.token.{kind}.{{{kind}}}",
+        f"use Rattle.c_tree.specs.declared.token.{kind}.TheVariants as {short}",
+        "", f"abbrev pub code : {kind} → ℕ",
     ]
-    out += [f"code p.{mark} = {n}" for n, mark in enumerate(marks)]
-    out += ["", "abbrev decode : ℕ → Punct"]
-    choice = f"p.{marks[-1]}"
+    out += [f"code {short}.{mark} = {n}" for n, mark in enumerate(marks)]
+    out += ["", f"abbrev decode : ℕ → {kind}"]
+    choice = f"{short}.{marks[-1]}"
     for n in range(len(marks) - 2, -1, -1):
-        choice = f"if n == {n} then p.{marks[n]} else ({choice})"
+        choice = f"if n == {n} then {short}.{marks[n]} else ({choice})"
     out += [f"decode n = {choice}"]
-    out += ["", "decode-code : (op : Punct) → decode (code op) ≡ op"]
-    out += [f"decode-code p.{mark} = refl" for mark in marks]
+    out += ["", f"decode-code : ({item} : {kind}) → decode (code {item}) ≡ {item}"]
+    out += [f"decode-code {short}.{mark} = refl" for mark in marks]
     out += [
-        "", "abbrev pub same_mark : Punct → Punct → Bool", "same_mark a b = code a == code b",
+        "", f"abbrev pub {same} : {kind} → {kind} → Bool", f"{same} a b = code a == code b",
         "", "equal_numbers : (a b : ℕ) → (a == b) ≡ true → a ≡ b", "equal_numbers a b h = grind (arith, nat_tests)",
-        "", "pub same_mark-true : (a b : Punct) → same_mark a b ≡ true → a ≡ b",
-        "same_mark-true a b h = sym (decode-code a) ∙ ap decode (equal_numbers (code a) (code b) h) ∙ decode-code b",
+        "", f"pub {same}-true : (a b : {kind}) → {same} a b ≡ true → a ≡ b",
+        f"{same}-true a b h = sym (decode-code a) ∙ ap decode (equal_numbers (code a) (code b) h) ∙ decode-code b",
         "", "equal_itself : (a : ℕ) → (a == a) ≡ true", "equal_itself a = grind (arith, nat_tests)",
-        "", "pub same_mark-itself : (a : Punct) → same_mark a a ≡ true", "same_mark-itself a = equal_itself (code a)",
+        "", f"pub {same}-itself : (a : {kind}) → {same} a a ≡ true", f"{same}-itself a = equal_itself (code a)",
     ]
-    Path("crates/c_grammar/specs/Punctuators.antt").write_text("\n".join(out) + "\n")
+    return "\n".join(out) + "\n"
+
+
+def punctuators():
+    Path("crates/c_grammar/specs/Punctuators.antt").write_text(numbers("Punct", "p", "same_mark", "op", "punctuators"))
+
+
+def keywords():
+    Path("crates/c_unit_grammar/specs/Keywords.antt").write_text(numbers("Keyword", "word", "same_word", "key", "keywords"))
 
 # ---- the trees
 
@@ -183,6 +192,7 @@ def declared():
 
 
 punctuators()
+keywords()
 write("Laws/Cases.antt", cases())
 write("Laws/Told.antt", told())
 write("Laws/Known.antt", declared())
