@@ -2,7 +2,7 @@
 """Writes the folds that type syntax trees, and one equation for each kind of node.
 
 Run from the top of the repository: `python3 tools/typing_equations.py`. It writes the files of
-crates/c_types/specs that begin with the line GENERATED of tree_equations.py; the steps that the folds
+crates/c_typing/specs that begin with the line GENERATED of tree_equations.py; the steps that the folds
 take are written by hand, in the `Of..` files beside them.
 """
 
@@ -12,7 +12,7 @@ from pathlib import Path
 sys.path.insert(0, str(Path(__file__).parent))
 import tree_equations as trees
 
-SPECS = Path("crates/c_types/specs")
+SPECS = Path("crates/c_typing/specs")
 
 # What typing makes of each kind of node, and where that is defined.
 MADE = {
@@ -41,8 +41,8 @@ def main():
             continue
         lines = [trees.GENERATED, f"-- The fold whose steps stand in Of{title}, and one equation for each kind of node."]
         lines += trees.uses(cycle)
-        lines.append(f"use Rattle.c_types.specs.Of{title}.{{{', '.join(family.steps(kind) for kind in cycle)}}}")
-        lines += [f"use Rattle.c_types.specs.{names}" for names in DEFINED[title]]
+        lines.append(f"use Rattle.c_typing.specs.Of{title}.{{{', '.join(family.steps(kind) for kind in cycle)}}}")
+        lines += [f"use Rattle.c_typing.specs.{names}" for names in DEFINED[title]]
         (SPECS / f"{title}.antt").write_text("\n".join(trees.used(lines + trees.equations(family, cycle))) + "\n")
 
 

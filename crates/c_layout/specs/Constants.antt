@@ -1,7 +1,7 @@
 -- Integer constant expressions (C11 6.6p3, p4, p6) over typed trees: which expressions have the form of one, and what they give.
 -- The form is asked of every part, whether it is evaluated or not; that no operation is undefined is asked of the parts that
 -- are evaluated.
-use Rattle.std.specs.Prelude.{ℕ, ◌-◌, ◌^◌, ◌==◌, Bool, true, false, not, ◌&&◌, List, [], ◌∷◌, Option, Some, None, if◌then◌else◌}
+use Rattle.std.specs.Prelude.{ℕ, ◌-◌, ◌^◌, ◌==◌, Bool, true, false, not, ◌&&◌, List, [], ◌∷◌, map, Option, Some, None, if◌then◌else◌}
 use Rattle.std.specs.List.{list_all}
 use Rattle.std.specs.Option.{option_and_then}
 use Rattle.word_ops.specs.declared.operation.Op.{Op}
@@ -201,3 +201,7 @@ target_number_of = fold-Target StepValue (Option ℕ) (Unit {0}) ArmValue step_n
 -- the value of an integer constant expression, or none where an expression is none
 abbrev pub constant_of : TExpr → Option ℕ
 constant_of e = when (has_constant_form e) (number_of e)
+
+-- the same of an expression and what is then done with its value
+abbrev pub constant_after : TExpr → List Step → Option ℕ
+constant_after e steps = when (has_constant_form e && all_hold (map step_has_form steps)) (option_and_then (stepped (map step_number_of steps)) (number_of e))

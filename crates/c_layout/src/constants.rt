@@ -22,6 +22,17 @@ pub fn constant(e: &TExpr) -> Option<u32>
     }
 }
 
+/// The same of an expression and what is then done with its value, without a tree of both.
+pub fn constant_after(e: &TExpr, steps: &[Step]) -> Option<u32>
+    ensures { result ≡ spec.constant_after e.now steps.now }
+{
+    if has_constant_form(e) && steps_have_form(steps) {
+        stepped(number_of(e)?, steps)
+    } else {
+        None
+    }
+}
+
 #[cycle(form)]
 fn has_constant_form(e: &TExpr) -> bool
     ensures { result ≡ spec.has_constant_form e.now }

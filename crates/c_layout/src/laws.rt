@@ -6,6 +6,10 @@ ghost use Rattle.c_layout.specs.declared.tags.StructLayout.{StructLayout};
 ghost use Rattle.c_layout.specs.Tags.{Structs, are_aligned};
 ghost use Rattle.c_layout.specs.Sizes.{is_complete};
 ghost use Rattle.c_layout.specs.Structures.{Declared, layout, next_multiple};
+ghost use Rattle.c_tree.specs.declared.typed.expression.TExpr.{TExpr};
+ghost use Rattle.c_tree.specs.declared.typed.expression.TExpr.TheVariants as x;
+ghost use Rattle.c_tree.specs.declared.typed.expression.Step.{Step};
+ghost use Rattle.c_layout.specs.Constants.{constant_of, constant_after};
 ghost use Rattle.c_layout.specs.Laws.{LieBetween, KeepsLayouts, Measures};
 
 /// The next multiple of an alignment is the least one that is not below.
@@ -35,4 +39,10 @@ pub fn complete_types_keep_their_size()
     ensures declared { (tags : Structs) → KeepsLayouts tags (tags ++ None ∷ []) }
     ensures completed { (tags : Structs) (tag : ℕ) (l : StructLayout) → slice_get tags tag ≡ Some None →
         KeepsLayouts tags (slice_set tags tag (Some l)) }
+{}
+
+/// An expression and what is then done with its value is an integer constant expression, with that value, exactly where
+/// the tree of both is one.
+pub fn steps_are_folded_as_their_tree()
+    ensures { (t : CType) (e : TExpr) (steps : List Step) → constant_after e steps ≡ constant_of (x.Applied t e steps) }
 {}

@@ -16,9 +16,10 @@ mod tags;
 #[cfg(test)]
 mod tests;
 
-pub use constants::constant;
+pub use constants::{constant, constant_after};
 pub use laws::{
     complete_types_keep_their_size, members_lie_in_their_structure, next_multiple_is_the_least,
+    steps_are_folded_as_their_tree,
 };
 pub use sizes::{align, size};
 pub use structures::{complete, member, member_offset};

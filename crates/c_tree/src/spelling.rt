@@ -8,4 +8,4 @@ mod token;
 mod tree;
 mod unit;
 
-pub use unit::spell;
+pub use unit::{spell, spell_definition};

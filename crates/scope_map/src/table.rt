@@ -1,4 +1,4 @@
-ghost use Rattle.std.specs.Prelude.{◌≡◌, ℕ, ◌≤◌, List, [], ◌∷◌, ◌++◌, OnErr, OnOk, if◌then◌else◌, is_some, length, take};
+ghost use Rattle.std.specs.Prelude.{◌≡◌, ℕ, ◌≤◌, List, [], ◌∷◌, ◌++◌, OnErr, OnOk, if◌then◌else◌, drop, is_some, length, take};
 ghost use Rattle.std.specs.List.{list_any};
 ghost use Rattle.std.specs.Option.{option_copied};
 ghost use Rattle.scope_map.specs.Scopes.{Marked, latest};
@@ -45,6 +45,17 @@ impl<K: Eq + Hash + Drop, V: Drop> ScopeMap<K, V> {
         ensures found { is_some result ≡ list_any (λ pair. K.eq pair.0 key.now) self.now }
     {
         latest_in(&self.pairs, key)
+    }
+
+    /// The value of the last pair since a mark whose key equals this one, or `None` where no pair since then has the key:
+    /// what an inner scope says of a key, whatever the outer ones say. Nothing stands behind a mark past the end.
+    pub fn get_since(&self, mark: usize, key: &K) -> Option<&V>
+        ensures { option_copied result ≡ latest K.eq (drop mark self.now) key.now }
+    {
+        if mark > self.pairs.len() {
+            return None;
+        }
+        latest_in(&self.pairs[mark..], key)
     }
 
     /// Puts a pair behind the others, so that it hides those of an equal key.

@@ -43,6 +43,9 @@ fn inner_scopes_hide_and_are_forgotten(rt: HostRuntime) -> Result<(), Fail> {
     table.insert(name(alloc, b"")?, 4)?;
     table.insert(name(alloc, b"a")?, 5)?;
     expect_values(&rt, &table, &names, &[5, 2, 4], "in the inner scope");
+    assert_eq!(rt; table.get_since(inner, &names[0]).copied(), Some(5));
+    assert_eq!(rt; table.get_since(inner, &names[1]).copied(), None);
+    assert_eq!(rt; table.get_since(6, &names[0]).copied(), None);
     table.leave(inner);
     expect_values(&rt, &table, &names, &[3, 2, 0], "in the outer scope");
     table.leave(outer);

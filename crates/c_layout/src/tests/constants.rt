@@ -1,4 +1,4 @@
-use crate::constant;
+use crate::{constant, constant_after};
 use c_tree::typed::{
     Arithmetic, Arm, Base, CType, Change, Conversion, Given, Increment, Primary, Relation, Scalar,
     Sign, Step, Stride, TExpr, Target, Unary,
@@ -501,8 +501,14 @@ fn steps_follow_one_another(rt: HostRuntime) -> Result<(), Fail> {
     steps.push(Step::Binary(Arithmetic::Word(Op::Subs), number(alloc, 2)))?;
     steps.push(Step::Unary(Unary::Negate(Sign::Signed)))?;
     steps.push(Step::Binary(Arithmetic::Word(Op::Adds), number(alloc, 1)))?;
-    let first = Boxed::new(alloc, number(alloc, 7))?;
-    let e = TExpr::Applied(int(alloc), first, Items::from_vec(steps));
+    let first = number(alloc, 7);
+    assert_eq!(rt; constant_after(&first, &steps), Some(0xffff_fffc));
+    assert_eq!(rt; constant_after(&first, &[]), Some(7));
+    let e = TExpr::Applied(
+        int(alloc),
+        Boxed::new(alloc, first)?,
+        Items::from_vec(steps),
+    );
     assert_eq!(rt; constant(&e), Some(0xffff_fffc));
     Ok(())
 }

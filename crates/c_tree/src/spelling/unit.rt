@@ -45,6 +45,19 @@ fn externals(alloc: Global, out: &mut Vec<TokenKind>, all: &[External]) -> Resul
     Ok(())
 }
 
+/// The kinds of the tokens of a function definition, in order (C11 6.9.1), from its first specifier to its closing brace.
+///
+/// # Errors
+///
+/// `Memory` where memory for the list is wanting, and for no other cause.
+pub fn spell_definition(alloc: Global, tree: &Definition) -> Result<Vec<TokenKind>, Memory>
+    ensures { IfOk result (λ list. list.items ≡ kinds (spec.definition_spelling tree.now)) }
+{
+    let mut out = Vec::new(alloc);
+    definition(alloc, &mut out, tree)?;
+    Ok(out)
+}
+
 /// The kinds of the tokens of a unit, in order (C11 6.9).
 ///
 /// They are those of the unit's spelling, which has the place of each token too. Parentheses are nodes

@@ -1,8 +1,0 @@
-use Rattle.c_types.proofs.First.{first_is_told, none_is_told}
-use Rattle.c_types.proofs.laws.first_is_told.Goals as goal
-
-pub returns-clause-first : goal.returns-clause-first
-returns-clause-first c = first_is_told
-
-pub returns-clause-none : goal.returns-clause-none
-returns-clause-none c = none_is_told

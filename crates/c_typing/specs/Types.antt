@@ -1,0 +1,255 @@
+-- Types: how they are made, which kinds there are, and which are compatible (C11 6.2.5, 6.2.7, 6.7.3, 6.7.6).
+use Rattle.std.specs.Prelude.{ℕ, ◌+◌, ◌-◌, ◌^◌, min, ◌==◌, Bool, true, false, ◌&&◌, ◌||◌, not, if◌then◌else◌, List, [], ◌∷◌, ◌++◌, Option, Some, None, reverse}
+use Rattle.c_tree.specs.declared.token.IntKind.TheVariants as number
+use Rattle.c_tree.specs.declared.typed.types.Base.{Base}
+use Rattle.c_tree.specs.declared.typed.types.Base.TheVariants as base
+use Rattle.c_tree.specs.declared.typed.types.Derived.{Derived, Row_of-CType, end_of-CType, more_of-CType, Row_of-Derived, end_of-Derived, more_of-Derived, items-the_row-CType}
+use Rattle.c_tree.specs.declared.typed.types.Derived.TheVariants as derived
+use Rattle.c_tree.specs.declared.typed.types.CType.{CType, out-CType, roll-CType}
+
+-- a number of bytes as 32 bits hold it: a type has at most 2^24, since a larger one is TooLarge where it is made
+abbrev pub in_word : ℕ → ℕ
+in_word n = min n (2 ^ 32 - 1)
+
+-- ---- how types are made
+
+-- a base type, whether it is `const`, and the derivations, innermost first
+abbrev pub made : Base → Bool → List Derived → CType
+made b c ds = roll-CType (record { base = b; constant = c; derived = ds })
+
+-- a base type that is not `const`
+abbrev pub plain : Base → CType
+plain b = made b false []
+
+abbrev pub int : CType
+int = plain base.Int
+
+abbrev pub unsigned : CType
+unsigned = plain base.Unsigned
+
+abbrev pub void : CType
+void = plain base.Void
+
+abbrev pub derived_from : CType → Derived → CType
+derived_from t d = made (out-CType t).base (out-CType t).constant ((out-CType t).derived ++ d ∷ [])
+
+-- a pointer to a type (C11 6.7.6.1), whose own `const` is told
+abbrev pub pointer_to : Bool → CType → CType
+pointer_to c t = derived_from t (derived.Pointer c)
+
+-- what a type is at its outside, and what it is derived from (C11 6.2.5p20)
+pub data Shape : Type 0 where
+  -- no derivation
+  Basic : (of : Base) → Shape
+  -- a pointer, whether it is `const` itself, and what it points to
+  PointerTo : (constant : Bool) → (target : CType) → Shape
+  -- an array, its number of elements where that is told, and their type
+  ArrayOf : (count : Option ℕ) → (element : CType) → Shape
+  -- a function, the types of its parameters, and that of its value
+  FunctionOf : (parameters : List CType) → (result : CType) → Shape
+
+abbrev pub shape_by : CType → Derived → Shape
+shape_by t (derived.Pointer c) = PointerTo c t
+shape_by t (derived.Array n) = ArrayOf n t
+shape_by t (derived.Function' n row) = FunctionOf (items-the_row-CType _ row) t
+
+abbrev pub shape_from : Base → Bool → (outermost_first : List Derived) → Shape
+shape_from b c [] = Basic b
+shape_from b c (d ∷ ds) = shape_by (made b c (reverse ds)) d
+
+abbrev pub shape : CType → Shape
+shape t = shape_from (out-CType t).base (out-CType t).constant (reverse (out-CType t).derived)
+
+-- ---- kinds of types (C11 6.2.5)
+
+-- integer types: `_Bool`, the character types, the others and enumerated types (p17)
+abbrev pub is_integer_base : Base → Bool
+is_integer_base base.Void = false
+is_integer_base (base.Struct n) = false
+is_integer_base b = true
+
+abbrev pub is_void_base : Base → Bool
+is_void_base base.Void = true
+is_void_base b = false
+
+abbrev pub is_struct_base : Base → Bool
+is_struct_base (base.Struct n) = true
+is_struct_base b = false
+
+abbrev pub is_bool_base : Base → Bool
+is_bool_base base.Bool = true
+is_bool_base b = false
+
+abbrev pub is_character_base : Base → Bool
+is_character_base base.Char = true
+is_character_base base.SignedChar = true
+is_character_base base.UnsignedChar = true
+is_character_base b = false
+
+abbrev pub basic : (Base → Bool) → Shape → Bool
+basic test (Basic b) = test b
+basic test s = false
+
+abbrev pub is_integer : CType → Bool
+is_integer t = basic is_integer_base (shape t)
+
+abbrev pub is_void : CType → Bool
+is_void t = basic is_void_base (shape t)
+
+abbrev pub is_struct : CType → Bool
+is_struct t = basic is_struct_base (shape t)
+
+abbrev pub is_bool : CType → Bool
+is_bool t = basic is_bool_base (shape t)
+
+abbrev pub is_character : CType → Bool
+is_character t = basic is_character_base (shape t)
+
+abbrev pub is_pointer_shape : Shape → Bool
+is_pointer_shape (PointerTo c t) = true
+is_pointer_shape s = false
+
+abbrev pub is_pointer : CType → Bool
+is_pointer t = is_pointer_shape (shape t)
+
+abbrev pub is_array_shape : Shape → Bool
+is_array_shape (ArrayOf n t) = true
+is_array_shape s = false
+
+abbrev pub is_array : CType → Bool
+is_array t = is_array_shape (shape t)
+
+abbrev pub is_function_shape : Shape → Bool
+is_function_shape (FunctionOf ps t) = true
+is_function_shape s = false
+
+abbrev pub is_function : CType → Bool
+is_function t = is_function_shape (shape t)
+
+-- arithmetic types and pointers (p21)
+abbrev pub is_scalar : CType → Bool
+is_scalar t = is_integer t || is_pointer t
+
+-- ---- qualifiers (C11 6.7.3)
+
+-- the qualifier of an array is that of its element (p9)
+abbrev pub is_constant_by : Bool → (outermost_first : List Derived) → Bool
+is_constant_by c [] = c
+is_constant_by c (derived.Pointer k ∷ ds) = k
+is_constant_by c (derived.Array n ∷ ds) = is_constant_by c ds
+is_constant_by c (d ∷ ds) = false
+
+abbrev pub is_constant : CType → Bool
+is_constant t = is_constant_by (out-CType t).constant (reverse (out-CType t).derived)
+
+-- the outermost derivations with this qualifier, and whether the base type has it
+abbrev pub qualified_by : (now base_has : Bool) → (outermost_first : List Derived) → Bool × List Derived
+qualified_by k c [] = (k, [])
+qualified_by k c (derived.Pointer old ∷ ds) = (c, derived.Pointer k ∷ ds)
+qualified_by k c (derived.Array n ∷ ds) = let rest = qualified_by k c ds in (rest.0, derived.Array n ∷ rest.1)
+qualified_by k c (d ∷ ds) = (c, d ∷ ds)
+
+-- a type with or without `const`
+abbrev pub with_constant : Bool → CType → CType
+with_constant k t =
+    let q = qualified_by k (out-CType t).constant (reverse (out-CType t).derived) in made (out-CType t).base q.0 (reverse q.1)
+
+abbrev pub unqualified : CType → CType
+unqualified t = with_constant false t
+
+-- a type that is also `const`
+abbrev pub constant_if : Bool → CType → CType
+constant_if k t = if k then with_constant true t else t
+
+-- ---- compatible types (C11 6.2.7, 6.7.3p10, 6.7.6)
+
+-- an enumerated type is compatible with int (6.7.2.2p4)
+abbrev pub base_number : Base → ℕ
+base_number base.Void = 0
+base_number base.Bool = 1
+base_number base.Char = 2
+base_number base.SignedChar = 3
+base_number base.UnsignedChar = 4
+base_number base.Short = 5
+base_number base.UnsignedShort = 6
+base_number base.Int = 7
+base_number base.Unsigned = 8
+base_number base.Long = 9
+base_number base.UnsignedLong = 10
+base_number (base.Enum n) = 7
+base_number (base.Struct n) = 11 + n
+
+-- how the numbers of elements of two arrays are compared
+abbrev pub Counts : Type 0
+Counts = Option ℕ → Option ℕ → Bool
+
+-- arrays of which one has no number of elements may be compatible (6.7.6.2p6)
+abbrev pub may_be_equal : Counts
+may_be_equal (Some m) (Some n) = m == n
+may_be_equal _ _ = true
+
+-- arrays of the same type have the same number of elements, or none
+abbrev pub are_equal : Counts
+are_equal (Some m) (Some n) = m == n
+are_equal None None = true
+are_equal _ _ = false
+
+abbrev pub same_truth : Bool → Bool → Bool
+same_truth true b = b
+same_truth false b = not b
+
+abbrev mutual
+  -- a derivation against another one
+  pub same_derived : Counts → Derived → Derived → Bool
+  same_derived counts (derived.Pointer c) (derived.Pointer k) = same_truth c k
+  same_derived counts (derived.Array m) (derived.Array n) = counts m n
+  same_derived counts (derived.Function' m ps) (derived.Function' n qs) = same_types counts ps qs
+  same_derived counts _ _ = false
+
+  -- the derivations of a type against those of another one
+  pub same_derivations : Counts → {m n : _} → Row_of-Derived m → Row_of-Derived n → Bool
+  same_derivations counts end_of-Derived end_of-Derived = true
+  same_derivations counts (more_of-Derived d ds) (more_of-Derived e es) = same_derived counts d e && same_derivations counts ds es
+  same_derivations counts _ _ = false
+
+  -- the types of parameters against those of others (6.7.6.3p15)
+  pub same_types : Counts → {m n : _} → Row_of-CType m → Row_of-CType n → Bool
+  same_types counts end_of-CType end_of-CType = true
+  same_types counts (more_of-CType b c m ds ts) (more_of-CType d k n es us) =
+      ((base_number b == base_number d) && same_truth c k) && (same_derivations counts ds es && same_types counts ts us)
+  same_types counts _ _ = false
+
+-- the same of lists of derivations
+abbrev pub all_same : Counts → List Derived → List Derived → Bool
+all_same counts [] [] = true
+all_same counts (d ∷ ds) (e ∷ es) = same_derived counts d e && all_same counts ds es
+all_same counts _ _ = false
+
+abbrev pub agree : Counts → CType → CType → Bool
+agree counts t u =
+    ((base_number (out-CType t).base == base_number (out-CType u).base) && same_truth (out-CType t).constant (out-CType u).constant)
+    && all_same counts (out-CType t).derived (out-CType u).derived
+
+-- whether two types are compatible
+abbrev pub compatible : CType → CType → Bool
+compatible t u = agree may_be_equal t u
+
+-- whether two types are the same, an enumerated type counting as int
+abbrev pub same_type : CType → CType → Bool
+same_type t u = agree are_equal t u
+
+-- the same but for the qualifiers of the types themselves
+abbrev pub alike : CType → CType → Bool
+alike t u = compatible (unqualified t) (unqualified u)
+
+-- the type of two compatible ones: an array has the number of elements that either tells (6.2.7p3)
+abbrev pub composite_derived : Derived → Derived → Derived
+composite_derived (derived.Array None) d = d
+composite_derived d e = d
+
+abbrev pub composite_list : List Derived → List Derived → List Derived
+composite_list (d ∷ ds) (e ∷ es) = composite_derived d e ∷ composite_list ds es
+composite_list ds es = ds
+
+abbrev pub composite : CType → CType → CType
+composite t u = made (out-CType t).base (out-CType t).constant (composite_list (out-CType t).derived (out-CType u).derived)

@@ -1,0 +1,44 @@
+use crate::operand::Operand;
+use c_tree::Pos;
+use c_tree::typed::CType;
+use word_ops::{Items, Text};
+
+/// One part of an object and what initialises it (C11 6.7.9p17).
+#[derive(Debug, Drop)]
+pub enum Leaf {
+    /// an expression
+    Given {
+        /// where the part lies, in bytes from the start of the whole
+        offset: u32,
+        /// the type of the part
+        ctype: CType,
+        /// the first token of the expression
+        first: Pos,
+        /// what it is, where no fault stands in it
+        value: Option<Operand>,
+    },
+    /// bytes of a string, so many bytes from the start of the whole
+    Text(u32, Text),
+    /// nothing that is right
+    Wrong,
+}
+
+/// The parts of an object that are initialised.
+#[derive(Debug, Drop)]
+pub struct Filled {
+    /// the parts, in order
+    pub leaves: Items<Leaf>,
+    /// of an array the number of elements up to the last of them
+    pub count: u64,
+}
+
+/// An aggregate that is being filled.
+#[derive(Debug, Drop)]
+pub struct Frame {
+    /// its type
+    pub ctype: CType,
+    /// where it begins
+    pub offset: u32,
+    /// how many of its parts were passed
+    pub passed: u64,
+}

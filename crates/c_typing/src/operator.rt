@@ -1,0 +1,26 @@
+use c_tree::FaultKind;
+use c_tree::typed::{Arithmetic, CType};
+
+/// What a row of the table of operators plans.
+#[derive(Debug, Drop)]
+pub struct Plan {
+    /// the type to which the left operand is converted
+    pub left: CType,
+    /// the type to which the right operand is converted
+    pub right: CType,
+    /// what is done
+    pub operator: Arithmetic,
+    /// the type of the result
+    pub result: CType,
+}
+
+/// What a row of the table of operators says of two operands.
+#[derive(Debug, Drop)]
+pub enum Row {
+    /// it does not take them
+    Other,
+    /// it takes them, and there is this fault at the operator
+    Wrong(FaultKind),
+    /// it takes them
+    Planned(Plan),
+}
