@@ -1,0 +1,9 @@
+pub mod Turns
+pub mod Lists
+pub mod Levels
+pub mod Depth
+pub mod AtFront
+pub mod Firsts
+pub mod Marks
+pub mod Names
+pub mod Strings

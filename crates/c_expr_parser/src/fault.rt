@@ -1,0 +1,62 @@
+use c_tree::Pos;
+use std::alloc::{AllocError, AllocFailed};
+use thiserror::Error;
+use word_ops::Memory;
+
+/// Why a call read no tree.
+#[derive(Debug, Drop, Error)]
+pub enum ParseFault {
+    /// The token at this place would be nested more than 256 deep.
+    #[error("nested too deeply")]
+    Nest(Pos),
+    /// No sentence of the production begins with the tokens up to the one at this place, or the tokens end there.
+    #[error("syntax")]
+    Syntax(Pos),
+    /// Memory is wanting.
+    #[error("out of memory")]
+    Memory,
+}
+
+/// Why a production stopped. The cursor stands at the place.
+#[derive(Clone, Copy, Debug, PartialEq, Eq)]
+pub enum Stop {
+    /// No sentence begins with the tokens up to the next one.
+    Syntax,
+    /// The next token would be nested too deeply.
+    Nest,
+    /// Memory is wanting.
+    Memory,
+}
+
+impl From<Memory> for Stop {
+    ghost use Rattle.std.specs.Prelude.{◌≡◌};
+    ghost use Rattle.c_expr_parser.specs.declared.fault.Stop.TheVariants as stop;
+
+    ghost from_gives = { λ _ e. e ≡ stop.Memory };
+
+    fn from(_refused: Memory) -> Stop {
+        Stop::Memory
+    }
+}
+
+impl From<AllocError> for Stop {
+    ghost use Rattle.std.specs.Prelude.{◌≡◌};
+    ghost use Rattle.c_expr_parser.specs.declared.fault.Stop.TheVariants as stop;
+
+    ghost from_gives = { λ _ e. e ≡ stop.Memory };
+
+    fn from(_refused: AllocError) -> Stop {
+        Stop::Memory
+    }
+}
+
+impl<T: Drop> From<AllocFailed<T>> for Stop {
+    ghost use Rattle.std.specs.Prelude.{◌≡◌};
+    ghost use Rattle.c_expr_parser.specs.declared.fault.Stop.TheVariants as stop;
+
+    ghost from_gives = { λ _ e. e ≡ stop.Memory };
+
+    fn from(_refused: AllocFailed<T>) -> Stop {
+        Stop::Memory
+    }
+}

@@ -1,0 +1,7 @@
+mod answers;
+mod declarators;
+mod expressions;
+mod names;
+mod nesting;
+mod shown;
+mod source;
