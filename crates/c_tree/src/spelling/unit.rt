@@ -53,9 +53,9 @@ fn externals(alloc: Global, out: &mut Vec<TokenKind>, all: &[External]) -> Resul
 pub fn spell_definition(alloc: Global, tree: &Definition) -> Result<Vec<TokenKind>, Memory>
     ensures { IfOk result (λ list. list.items ≡ kinds (spec.definition_spelling tree.now)) }
 {
-    let mut out = Vec::new(alloc);
-    definition(alloc, &mut out, tree)?;
-    Ok(out)
+    let mut kinds = Vec::new(alloc);
+    definition(alloc, &mut kinds, tree)?;
+    Ok(kinds)
 }
 
 /// The kinds of the tokens of a unit, in order (C11 6.9).
