@@ -1,0 +1,1 @@
+use Rattle.c_type_rules.proofs.Shaped.{of_pointer}
