@@ -18,7 +18,7 @@ derivations-row counts m n end_of-Derived (more_of-Derived e es) = refl
 derivations-row counts m n (more_of-Derived d ds) end_of-Derived = refl
 derivations-row counts m n (more_of-Derived d ds) (more_of-Derived e es) = ap (λ (x : Bool). same_derived counts d e && x) (derivations-row counts _ _ ds es)
 
-types-row : (counts : Counts) (m n : _) (r : Row_of-CType m) (s : Row_of-CType n) →
+pub types-row : (counts : Counts) (m n : _) (r : Row_of-CType m) (s : Row_of-CType n) →
     same_types counts r s ≡ all_agree counts (items-the_row-CType _ r) (items-the_row-CType _ s)
 types-row counts m n end_of-CType end_of-CType = refl
 types-row counts m n end_of-CType (more_of-CType d k i es us) = refl
