@@ -39,7 +39,7 @@ parameters-agree counts ps qs =
     ∙ ap (λ (l : List CType). all_agree counts l (items-the_row-CType _ (hidden-the_row-CType-1 qs))) (items_hidden-the_row-CType-1 ps)
     ∙ ap (all_agree counts ps) (items_hidden-the_row-CType-1 qs)
 
-and_false : (b : Bool) → false ≡ (b && false)
+pub and_false : (b : Bool) → false ≡ (b && false)
 and_false true = refl
 and_false false = refl
 

@@ -1,17 +1,17 @@
 //! Compatible types (C11 6.2.7, 6.7.3p10, 6.7.6).
 
-ghost use Rattle.std.specs.Prelude.{◌≡◌, IfOk};
+ghost use Rattle.std.specs.Prelude.{◌≡◌, ◌<◌, true, length, slice_get, IfOk};
 ghost use Rattle.c_typing.specs.Types as spec;
 ghost use Rattle.c_typing.specs.Conversions as conversions;
 ghost use Rattle.c_type_rules.specs.Shapes.{lent};
-ghost use Rattle.c_type_rules.specs.Compatibility.{counted, all_agree, same_base};
+ghost use Rattle.c_type_rules.specs.Compatibility.{counted, all_agree, same_base, is_open};
 
 use crate::conversions::as_int;
 use crate::copies::copied_derivation;
 use crate::shapes::{LentType, TypeShape, lend};
 use c_tree::typed::{Base, CType, Derived};
 use std::alloc::Global;
-use word_ops::Memory;
+use word_ops::{Items, Memory};
 
 /// How the numbers of elements of two arrays are compared.
 #[derive(Clone, Copy)]
@@ -70,7 +70,7 @@ pub fn composite(alloc: Global, t: CType, u: &CType) -> Result<CType, Memory>
         mut derived,
     } = t;
     for (at, other) in u.derived.as_slice().iter().enumerate() {
-        if let Some(Derived::Array(None)) = derived.get(at) {
+        if is_open_array(&derived, at) {
             derived.set(at, copied_derivation(alloc, other)?);
         }
     }
@@ -79,6 +79,14 @@ pub fn composite(alloc: Global, t: CType, u: &CType) -> Result<CType, Memory>
         constant,
         derived,
     })
+}
+
+/// Whether the derivation at this index is an array without a number of elements.
+fn is_open_array(derived: &Items<Derived>, at: usize) -> bool
+    ensures told { result ≡ is_open (slice_get derived.now at) }
+    ensures within { result ≡ true → at < length derived.now }
+{
+    matches!(derived.get(at), Some(Derived::Array(None)))
 }
 
 #[cycle(same)]

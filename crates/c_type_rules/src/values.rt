@@ -85,6 +85,7 @@ pub fn dropping(alloc: Global, operand: Operand) -> Result<Operand, Memory>
 
 /// A tree whose value is dropped: a call whose value is dropped has a form of its own, and the drop of a comma reaches its
 /// last operand (C11 6.3.2.2, 6.5.17).
+#[cycle(drops)]
 fn dropped(alloc: Global, tree: TExpr) -> Result<TExpr, Memory>
     ensures { IfOk result (λ r. r ≡ spec.dropped tree) }
 {
@@ -94,13 +95,18 @@ fn dropped(alloc: Global, tree: TExpr) -> Result<TExpr, Memory>
             function,
             arguments,
         )),
-        TExpr::Comma(_, before, last) => Ok(TExpr::Comma(
-            plain(alloc, Base::Void),
-            before,
-            Boxed::new(alloc, dropped(alloc, last.into_inner())?)?,
-        )),
+        TExpr::Comma(_, before, last) => comma_dropped(alloc, last, before),
         other => then_drop(alloc, other),
     }
+}
+
+/// A comma whose value is dropped.
+#[cycle(drops)]
+fn comma_dropped(alloc: Global, last: Boxed<TExpr>, before: Items<TExpr>) -> Result<TExpr, Memory>
+    ensures { IfOk result (λ r. r ≡ x.Comma types.void before (spec.dropped last)) }
+{
+    let last = Boxed::new(alloc, dropped(alloc, last.into_inner())?)?;
+    Ok(TExpr::Comma(plain(alloc, Base::Void), before, last))
 }
 
 /// A tree, and then the drop of its value.
