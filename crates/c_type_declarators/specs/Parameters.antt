@@ -4,7 +4,7 @@ use Rattle.c_tree.specs.declared.token.Pos.{Pos}
 use Rattle.c_tree.specs.declared.expression.Identifier.{Identifier}
 use Rattle.c_tree.specs.declared.typed.types.CType.{CType}
 use Rattle.c_typing.specs.Scopes.{Walk, give, ◌>>=◌, asked}
-use Rattle.c_typing.specs.Declarators.{Parameter}
+use Rattle.c_typing.specs.declared.declarator.Parameter.{Parameter}
 use Rattle.c_typing.specs.OfTrees.{parameter_named}
 
 abbrev pub parameter_given : Option Identifier → Pos → ℕ → Bool → CType → Walk Parameter

@@ -1,6 +1,6 @@
 //! What the parts of a declarator make of a type (C11 6.7.6).
 
-ghost use Rattle.std.specs.Prelude.{◌≡◌, ◌++◌, IfOk, map, reverse};
+ghost use Rattle.std.specs.Prelude.{◌≡◌, ◌++◌, nat_lt, IfOk, length, map, reverse};
 ghost use Rattle.c_typing.specs.Declarators as spec;
 ghost use Rattle.c_typing.specs.OfTrees as trees;
 ghost use Rattle.c_typing.specs.Types as types;
@@ -30,9 +30,16 @@ pub fn pointing(alloc: Global, pointers: &[Pointer]) -> Result<Items<Part>, Memo
 {
     let mut parts = Items::new(alloc);
     for pointer in pointers {
-        parts.push(Part::Pointing(!pointer.constants.is_empty()))?;
+        parts.push(Part::Pointing(is_constant(pointer)))?;
     }
     Ok(parts)
+}
+
+/// Whether `const` stands behind the star of a pointer (C11 6.7.6.1p1).
+fn is_constant(pointer: &Pointer) -> bool
+    ensures { result ≡ nat_lt 0 (length pointer.now.constants) }
+{
+    !pointer.constants.is_empty()
 }
 
 /// The parts of a declarator in the order in which they apply to a type: its pointers, what stands behind its middle from

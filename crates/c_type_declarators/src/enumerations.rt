@@ -4,7 +4,6 @@ ghost use Rattle.std.specs.Prelude.{◌≡◌, ◌+◌, ◌%◌, ◌^◌};
 ghost use Rattle.std.specs.Option.{option_copied, option_map};
 ghost use Rattle.c_typing.specs.Declarators as spec;
 ghost use Rattle.c_typing.specs.Scopes as scopes;
-ghost use Rattle.c_typing.specs.Scopes.{◌>>=◌};
 ghost use Rattle.c_type_walk.specs.Walks.{Walks};
 ghost use Rattle.c_type_declarators.specs.Enumerations as enumerations;
 
@@ -72,7 +71,7 @@ pub fn valued_enumerator(
     first: Pos,
     operand: Option<Operand>,
 ) -> Result<Option<u32>, Memory>
-    ensures { Walks (scopes.asked operand (spec.enumerator_value first) >>= spec.enumerator_declared name.now) around.now found.old result found.new }
+    ensures { Walks (enumerations.enumerator_with name.now first operand) around.now found.old result found.new }
 {
     let value = value_if_any(alloc, found, around, first, operand)?;
     declared_enumerator(alloc, found, around, name, value)

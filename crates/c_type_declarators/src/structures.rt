@@ -8,7 +8,6 @@ ghost use Rattle.std.specs.Str.{bytes_eq};
 ghost use Rattle.c_typing.specs.Scopes as scopes;
 ghost use Rattle.c_layout.specs.Tags.{is_alignment};
 ghost use Rattle.c_type_walk.specs.Walks.{Walks};
-ghost use Rattle.c_type_declarators.specs.Members.{names_of};
 
 use crate::derivations::{MOST_BYTES, complete_row};
 use crate::names::copied_identifier;
@@ -155,9 +154,9 @@ fn tell_repeated(found: &mut Found, members: &[(Identifier, Option<CType>)]) -> 
 
 /// Whether one of these members has this name.
 fn has_member(members: &[(Identifier, Option<CType>)], name: &Text) -> bool
-    ensures { result ≡ list_any (bytes_eq name.now) (names_of members.now) }
+    ensures { result ≡ list_any (λ m. bytes_eq name.now m.0.text) members.now }
 {
-    members.iter().any(|member| member.0.text == *name)
+    members.iter().any(|member| *name == member.0.text)
 }
 
 /// The members as they are declared, or `None` where a fault stands in one.

@@ -2,7 +2,7 @@
 
 ghost use Rattle.std.specs.Prelude.{◌≡◌};
 ghost use Rattle.c_typing.specs.Declarators as spec;
-ghost use Rattle.c_type_declarators.specs.Words as words;
+ghost use Rattle.c_type_declarators.specs.Words as meant;
 
 use c_tree::TypeWord;
 use c_tree::typed::{Base, Sign};
@@ -34,7 +34,7 @@ pub fn named_by_words(list: &[TypeWord]) -> Option<Base>
 
 /// Words as a sign, a kind and `int`, or `None` where two of them do not go together.
 fn read_words(list: &[TypeWord]) -> Option<Words>
-    ensures { result ≡ words.read_words words.no_words list.now }
+    ensures { result ≡ meant.read_words meant.no_words list.now }
 {
     let mut words = Words {
         sign: None,
@@ -49,7 +49,7 @@ fn read_words(list: &[TypeWord]) -> Option<Words>
 
 /// One word more.
 fn with_word(words: Words, word: TypeWord) -> Option<Words>
-    ensures { result ≡ words.with_word words word }
+    ensures { result ≡ meant.with_word words word }
 {
     match word {
         TypeWord::Void => with_kind(words, Kind::Void),
@@ -64,7 +64,7 @@ fn with_word(words: Words, word: TypeWord) -> Option<Words>
 }
 
 fn with_kind(words: Words, kind: Kind) -> Option<Words>
-    ensures { result ≡ words.with_kind words kind }
+    ensures { result ≡ meant.with_kind words kind }
 {
     match words.kind {
         None => Some(Words {
@@ -76,7 +76,7 @@ fn with_kind(words: Words, kind: Kind) -> Option<Words>
 }
 
 fn with_sign(words: Words, sign: Sign) -> Option<Words>
-    ensures { result ≡ words.with_sign words sign }
+    ensures { result ≡ meant.with_sign words sign }
 {
     match words.sign {
         None => Some(Words {
@@ -88,7 +88,7 @@ fn with_sign(words: Words, sign: Sign) -> Option<Words>
 }
 
 fn with_int(words: Words) -> Option<Words>
-    ensures { result ≡ words.with_int words }
+    ensures { result ≡ meant.with_int words }
 {
     if words.int {
         return None;
@@ -98,7 +98,7 @@ fn with_int(words: Words) -> Option<Words>
 
 /// The type that such words name (C11 6.7.2p2).
 fn base_of(words: Words) -> Option<Base>
-    ensures { result ≡ words.base_of words }
+    ensures { result ≡ meant.base_of words }
 {
     match words.kind {
         None => int_of(words),
@@ -112,7 +112,7 @@ fn base_of(words: Words) -> Option<Base>
 
 /// `int`, and `signed` or `unsigned` with or without it.
 fn int_of(words: Words) -> Option<Base>
-    ensures { result ≡ words.int_of words }
+    ensures { result ≡ meant.int_of words }
 {
     if words.sign.is_none() && !words.int {
         return None;
@@ -122,7 +122,7 @@ fn int_of(words: Words) -> Option<Base>
 
 /// A type beside whose word none stands.
 fn alone(words: Words, base: Base) -> Option<Base>
-    ensures { result ≡ words.alone words base }
+    ensures { result ≡ meant.alone words base }
 {
     if words.sign.is_some() || words.int {
         return None;
@@ -132,7 +132,7 @@ fn alone(words: Words, base: Base) -> Option<Base>
 
 /// `char` is a type of its own beside `signed char` and `unsigned char` (C11 6.2.5p15).
 fn character_of(words: Words) -> Option<Base>
-    ensures { result ≡ words.character_of words }
+    ensures { result ≡ meant.character_of words }
 {
     if words.int {
         return None;
@@ -146,7 +146,7 @@ fn character_of(words: Words) -> Option<Base>
 
 /// The unsigned type where `unsigned` stands, else the signed one.
 fn signed_or(sign: Option<Sign>, signed: Base, unsigned: Base) -> Base
-    ensures { result ≡ words.signed_or sign signed unsigned }
+    ensures { result ≡ meant.signed_or sign signed unsigned }
 {
     match sign {
         Some(Sign::Unsigned) => unsigned,
