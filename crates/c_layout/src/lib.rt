@@ -22,5 +22,5 @@ pub use laws::{
     steps_are_folded_as_their_tree,
 };
 pub use sizes::{align, size};
-pub use structures::{complete, member, member_offset};
+pub use structures::{complete, lay_out, member, member_offset};
 pub use tags::{MemberLayout, StructLayout, Tags};

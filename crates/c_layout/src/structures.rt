@@ -63,9 +63,19 @@ fn find_member<'a>(members: &'a [MemberLayout], name: &Text) -> Option<&'a Membe
     members.iter().find(|member| member.name == *name)
 }
 
-/// The layout of a structure of these members.
-fn lay_out(alloc: Global, tags: &Tags, members: Vec<(Text, CType)>) -> Result<StructLayout, Memory>
-    requires complete { All (λ m. sizes.is_complete tags.now m.1 ≡ true) members.items }
+/// The layout of a structure of these members, in the order of their declarations (C11 6.7.2.1p15, p17).
+///
+/// Neither that the names differ nor that the types are complete is asked: a member of an incomplete type counts as one
+/// of no bytes. The time is linear in the number of members and of derivations in their types.
+///
+/// # Errors
+///
+/// `Memory` where memory for the members is wanting.
+pub fn lay_out(
+    alloc: Global,
+    tags: &Tags,
+    members: Vec<(Text, CType)>,
+) -> Result<StructLayout, Memory>
     ensures layout { IfOk result (λ layout. layout ≡ spec.layout tags.now members.items) }
     ensures aligned { IfOk result (λ layout. is_alignment layout.alignment ≡ true) }
 {
@@ -92,19 +102,17 @@ fn lay_out(alloc: Global, tags: &Tags, members: Vec<(Text, CType)>) -> Result<St
 
 /// The bytes of an object of a complete type.
 fn bytes(t: &CType, tags: &Tags) -> u64
-    requires { sizes.is_complete tags.now t.now ≡ true }
     ensures { result ≡ sizes.capped (spec.bytes_of tags.now t.now) }
 {
-    size(t, tags).unwrap()
+    size(t, tags).unwrap_or(0)
 }
 
 /// The alignment of an object of a complete type.
 fn strictness(t: &CType, tags: &Tags) -> u64
-    requires { sizes.is_complete tags.now t.now ≡ true }
     ensures strictness { result ≡ spec.strictness_of tags.now t.now }
     ensures aligned { is_alignment result ≡ true }
 {
-    align(t, tags).unwrap()
+    align(t, tags).unwrap_or(1)
 }
 
 /// The next multiple of an alignment, from a number on.

@@ -1,4 +1,4 @@
-ghost use Rattle.std.specs.Prelude.{◌≡◌, ◌<◌, ◌++◌, ◌∷◌, [], List, length, slice_get, slice_set, true, IfOk, OnErr, Some, None};
+ghost use Rattle.std.specs.Prelude.{◌≡◌, ◌++◌, ◌∷◌, [], List, length, slice_get, slice_set, true, IfOk, OnErr, Some, None};
 ghost use Rattle.std.specs.Option.{option_copied};
 ghost use Rattle.c_layout.specs.Tags as spec;
 
@@ -94,12 +94,14 @@ impl Tags {
         }
     }
 
-    /// Gives a structure type its layout.
-    pub(crate) fn set(&mut self, tag: u32, layout: StructLayout)
-        requires declared { tag < length self.old }
-        requires aligned { spec.is_alignment layout.alignment ≡ true }
+    /// Gives a structure type its layout. Where the number is not in the list, nothing changes.
+    pub fn set(&mut self, tag: u32, layout: StructLayout)
+        requires { spec.is_alignment layout.alignment ≡ true }
         ensures { self.new ≡ slice_set self.old tag (Some layout) }
     {
-        self.list.set(tag as usize, Some(layout));
+        let at = tag as usize;
+        if at < self.list.len() {
+            self.list.set(at, Some(layout));
+        }
     }
 }

@@ -5,14 +5,6 @@ use Rattle.c_layout.specs.Structures.{Declared, start_behind, end_of, next_multi
 use Rattle.c_layout.proofs.Members.{All-next, end_of-more, placed-more, strictest-more, next_multiple_capped, sum_capped, is_alignment-positive, is_alignment-max}
 use Rattle.c_layout.proofs.structures.lay_out.Goals as goal
 
-pub strictness-strictness-requires : goal.strictness-strictness-requires
-strictness-strictness-requires c =
-    All-next (λ (m : Declared). is_complete c.args.tags.now m.1 ≡ true) c.loop-name.yielded (c.in-Some.name, c.in-Some.ctype) c.next.new.self.rest.items c.args.members.items (rw c.in-Some.ensures.steps.0 at c.loop-name.invariant.rest) c.requires.complete
-
-pub bytes-requires : goal.bytes-requires
-bytes-requires c =
-    All-next (λ (m : Declared). is_complete c.args.tags.now m.1 ≡ true) c.loop-name.yielded (c.in-Some.name, c.in-Some.ctype) c.next.new.self.rest.items c.args.members.items (rw c.in-Some.ensures.steps.0 at c.loop-name.invariant.rest) c.requires.complete
-
 pub loop-name-preserved : goal.loop-name-preserved
 loop-name-preserved c =
     let tags = c.args.tags.now in
