@@ -52,10 +52,25 @@ impl<K: Eq + Hash + Drop, V: Drop> ScopeMap<K, V> {
     pub fn get_since(&self, mark: usize, key: &K) -> Option<&V>
         ensures { option_copied result ≡ latest K.eq (drop mark self.now) key.now }
     {
-        if mark > self.pairs.len() {
+        if mark > self.mark() {
             return None;
         }
         latest_in(&self.pairs[mark..], key)
+    }
+
+    /// The value of the last pair since one mark and before another whose key equals this one, or `None` where no such pair
+    /// has the key: what a scope has said of a key before another one began in it. A mark past the end is the end.
+    pub fn get_between(&self, mark: usize, end: usize, key: &K) -> Option<&V>
+        ensures { option_copied result ≡ latest K.eq (drop mark (take end self.now)) key.now }
+    {
+        if end > self.mark() {
+            return self.get_since(mark, key);
+        }
+        if mark > end {
+            return None;
+        }
+        let before = &self.pairs[..end];
+        latest_in(&before[mark..], key)
     }
 
     /// Puts a pair behind the others, so that it hides those of an equal key.
@@ -71,6 +86,19 @@ impl<K: Eq + Hash + Drop, V: Drop> ScopeMap<K, V> {
         ensures marks { (mark : ℕ) (at : List (K × V)) → Marked self.old mark at → Marked self.new mark at }
     {
         self.pairs.push((key, value))?;
+        Ok(())
+    }
+
+    /// Puts a pair where a scope begins, as the last of the scope around it; what stands in the scope hides it.
+    ///
+    /// # Errors
+    ///
+    /// `Memory` where memory for the pair is wanting.
+    pub fn insert_at(&mut self, mark: usize, key: K, value: V) -> Result<(), Memory>
+        requires { mark ≤ length self.old }
+        ensures { OnOk result (self.new ≡ take mark self.old ++ ((key, value) ∷ drop mark self.old)) }
+    {
+        self.pairs.insert(mark, (key, value))?;
         Ok(())
     }
 

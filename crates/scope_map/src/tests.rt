@@ -54,6 +54,25 @@ fn inner_scopes_hide_and_are_forgotten(rt: HostRuntime) -> Result<(), Fail> {
     Ok(())
 }
 
+#[test]
+fn a_pair_may_be_put_before_a_scope(rt: HostRuntime) -> Result<(), Fail> {
+    let alloc = rt.alloc();
+    let mut table = ScopeMap::new(alloc);
+    table.insert(1u8, 10)?;
+    let inner = table.mark();
+    table.insert(2, 20)?;
+    table.insert(3, 30)?;
+    table.insert_at(inner, 2, 21)?;
+    assert_eq!(rt; table.get(&2).copied(), Some(20));
+    assert_eq!(rt; table.get_between(0, inner + 1, &2).copied(), Some(21));
+    assert_eq!(rt; table.get_between(inner + 1, 9, &3).copied(), Some(30));
+    assert_eq!(rt; table.get_between(inner, inner + 1, &1).copied(), None);
+    assert_eq!(rt; table.get_between(inner, 0, &2).copied(), None);
+    table.leave(inner + 1);
+    assert_eq!(rt; table.get(&2).copied(), Some(21));
+    Ok(())
+}
+
 // Inserts pairs; each mark stays good.
 fn insert_all<K: Eq + Hash + Drop, V: Drop>(
     table: &mut ScopeMap<K, V>,
