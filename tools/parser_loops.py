@@ -1,77 +1,158 @@
-# Writes the invariants of the loops of c_expr_parser that collect a list: what is left of the whole list is read by the turns that are left.
-import os
-R = os.path.join(os.path.dirname(__file__), '../crates/c_expr_parser/proofs/')
-HEAD = '''use Rattle.c_tree.specs.Levels.Productions as production
-use Rattle.c_grammar.specs.Input.{loop, goes, peek, is_bytes, one}
-use Rattle.c_grammar.specs.Read.Nodes.{ties, is_unary}
-use Rattle.c_grammar.specs.Read.Expressions as expressions
-use Rattle.c_grammar.specs.Read.Depth.{inside}
-use Rattle.c_expr_parser.specs.Parts as parts
-'''
-PLAIN = '(λ _ _. tt)'
+#!/usr/bin/env python3
+"""Writes the proofs of the loops of c_expr_parser that read a list, one item a turn.
+
+Run from the top of the repository: `python3 tools/parser_loops.py`. For the function of each loop in LOOPS it writes
+Invariants.antt and Answers.antt, which begin with the line GENERATED below. All of them are the lemmas of
+crates/c_expr_parser/proofs/Turns.antt at the parser on lists that the loop follows.
+"""
+
+import re
+from dataclasses import dataclass
+from pathlib import Path
+
+PROOFS = Path("crates/c_expr_parser/proofs")
+GENERATED = "-- Written by tools/parser_loops.py."
+
+# In the parsers on lists below, @ stands for the brackets that may still be opened and what stands inside one.
+INSIDE = "l.self.more (inside l.self.more)"
 
 
-def at(text, more, of):
-    return text.replace('@', f'{more} (inside {more})').replace('$', f'(inside {more})').replace('#', of)
+@dataclass
+class Loop:
+    function: str  # its folder of proofs
+    whole: str  # the parser of the whole list
+    goes: str  # the test for a further item
+    item: str  # the parser of an item
+    test: str  # how the goals name the test
+    read: str  # how they name the item that was read: its variable, else the call
+    push: str = "push"  # how they name the call that puts it behind the others
+    opened: str = ""  # the definition of the whole list
+    told: str = ""  # the variable for what the items so far tell
+    step: str = ""  # how a further item changes that
+    by: str = "cc"  # the tactic for what the test told
+
+    @property
+    def is_method(self):
+        return self.function.startswith("grammar/Grammar/")
 
 
-def invariant(name, whole, goes, item, step=PLAIN, state='tt', method=True):
-    more = 'l.self.more'
-    types = '{S = Unit {0}} ' if state == 'tt' else ''
-    generic = 'g ' if method else ''
-    part = f"loop {types}{at(goes, more, 'l')} {at(item, more, 'l')} {step} (l._turn-end - l._turn) {state.replace('#', 'l')} l.found l.input"
-    return f'''
-abbrev pub {name} : goal.{name}
-{name} {generic}l = Reading ({at(whole, more, 'l')} l.fn.input) ({part}) l.fn.input l.input
-'''
+LITERAL = "(one expressions.literal_at)"
+ARGUMENT = "((inside l.self.more).expr production.assignment)"
+GRAMMAR = "grammar/Grammar/"
+COMMA = "(sees p.Comma)"
+
+LOOPS = [
+    Loop("operands/more_literals", "parts.literals l.fn.first", "(λ i. is_bytes (peek i.1))", LITERAL,
+         "not-is_bytes", "literal", push="push-2"),
+    Loop(GRAMMAR + "more_arguments", f"expressions.nexts production.comma {ARGUMENT}", "(goes production.comma)",
+         f"(expressions.after_operator {ARGUMENT})", "not-goes", "argument", opened="expressions.nexts"),
+    Loop(GRAMMAR + "suffixes", "parts.suffixes @", "(goes production.postfix)", "(expressions.one_suffix @)",
+         "not-goes", "suffix", opened="parts.suffixes"),
+    Loop(GRAMMAR + "run", "parts.run @", "expressions.goes_prefix", "(λ _. expressions.one_prefix @)",
+         "not-goes_prefix", "prefix", opened="parts.run", told="tight", step="(λ _. ties)"),
+    Loop(GRAMMAR + "branches", "parts.branches @", "(goes production.conditional)", "(expressions.branch @)",
+         "not-goes", "branch", opened="parts.branches"),
+    Loop(GRAMMAR + "targets", "parts.targets @ (is_unary l.first)", "expressions.goes_assign",
+         "(λ _. expressions.after_operator (expressions.conditional @))",
+         "not-goes", "next", opened="parts.targets", told="unary", step="expressions.last_unary", by="first_of (search rules, grind (arith, common_steps))"),
+    Loop(GRAMMAR + "comma_rest", "expressions.nexts production.comma (expressions.assignment @)", "(goes production.comma)",
+         "(expressions.after_operator (expressions.assignment @))", "not-goes", "comma_next", opened="expressions.nexts"),
+    Loop(GRAMMAR + "member_declarators", "parts.member_declarators @ l.typed", COMMA,
+         "(specifiers.next_member_declarator @ l.typed)",
+         "not-sees", "next_member_declarator", push="push-2", opened="parts.member_declarators"),
+    Loop(GRAMMAR + "members", "parts.members @", "(specifiers.goes_member @)", "(specifiers.member @)",
+         "not-begins_type", "next", push="push-2", opened="parts.members"),
+    Loop(GRAMMAR + "enumerators", "parts.enumerators @", "specifiers.goes_enumerator", "(specifiers.next_enumerator @)",
+         "not-goes_enumerator", "next_enumerator", push="push-2", opened="parts.enumerators"),
+    Loop(GRAMMAR + "specifiers", "specifiers.specifiers @ l.with_storage", "(specifiers.goes_specifier @ l.with_storage)",
+         "(specifiers.one_specifier @ l.with_storage)",
+         "not-begins_specifier", "next", push="push-2", told="typed", step="(specifiers.types @)"),
+    Loop("declarators/constants", "parts.constants", "(λ i. is_const (peek i.1))", "(one declarators.const_at)",
+         "not-is_const", "const_word", opened="parts.constants"),
+    Loop("declarators/pointers", "declarators.pointers", "(sees p.Star)", "declarators.pointer",
+         "not-sees", "pointer", opened="declarators.pointers"),
+    Loop(GRAMMAR + "parameter_list", "parts.parameter_list @", COMMA, "(declarators.next_parameter @)",
+         "not-sees", "next_parameter", push="push-2", opened="parts.parameter_list"),
+    Loop(GRAMMAR + "declarator_suffixes", "parts.declarator_suffixes @", "parts.goes_declarator_suffix",
+         "(declarators.one_suffix @)", "not-sees_suffix", "declarator_suffix", opened="parts.declarator_suffixes"),
+]
+
+# Where the names in the texts below come from, in the order of their lines.
+NAMES = [
+    ("Rattle.std.proofs.Common", ["rules", "arith", "refl"]),
+    ("Rattle.std.proofs.lemmas.Grind", ["common_steps"]),
+    ("Rattle.c_grammar.specs.Input", ["peek", "is_bytes", "sees", "goes", "one"]),
+    ("Rattle.c_grammar.specs.Read.Nodes", ["ties", "is_unary"]),
+    ("Rattle.c_grammar.specs.Read.Inner", ["is_const"]),
+    ("Rattle.c_grammar.specs.Read.Depth", ["inside"]),
+    ("Rattle.c_expr_parser.proofs.Turns", ["Listing", "TellingListing", "item_read", "item_refused", "items_end", "turns_end"]),
+]
+MODULES = [
+    ("Rattle.c_tree.specs.declared.token.Punct.TheVariants", "p"),
+    ("Rattle.c_tree.specs.Levels.Productions", "production"),
+    ("Rattle.c_grammar.specs.Read.Expressions", "expressions"),
+    ("Rattle.c_grammar.specs.Read.Specifiers", "specifiers"),
+    ("Rattle.c_grammar.specs.Read.Declarators", "declarators"),
+    ("Rattle.c_expr_parser.specs.Parts", "parts"),
+]
 
 
-def answers(prefix, goes, item, guard, call, unfolding='', step=PLAIN, state='tt', arguments='g c'):
-    more = 'c.args.self.now.more'
-    types = '{S = Unit {0}} ' if state == 'tt' else ''
-    now = state.replace('#', 'c.loop-turn')
-    def fact(lemma, test):
-        return f"let e = {lemma} {types}{at(goes, more, 'c.args')} {at(item, more, 'c.args')} {step} _ c.loop-turn._turn {now} c.loop-turn.found c.loop-turn.input {test} c.loop-turn.invariant.same in"
-    inside, behind = 'c.loop-turn-test.true', 'c.loop-turn-test.false'
-    text = ''
-    if unfolding:
-        text += f'''
-pub {prefix}loop-turn-init : goal.{prefix}loop-turn-init
-unfolding {unfolding}
-{prefix}loop-turn-init {arguments} = first_of (search rules, grind (arith, common_steps))
-'''
-    for name, lemma, test in ((f'returns-then-{guard}-clause-reads', 'items_end', inside), (f'returns-in_err-{call}-clause-reads', 'item_refused', inside),
-                              ('loop-turn-preserved', 'item_read', inside), ('returns-clause-reads', 'turns_end', behind)):
-        opened = f"unfolding {unfolding} loop\n" if name == 'loop-turn-preserved' else ''
-        text += f'''
-pub {prefix}{name} : goal.{prefix}{name}
-{opened}{prefix}{name} {arguments} =
-    {fact(lemma, test)}
-    first_of (search (rules, e), grind (arith, common_steps, e))
-'''
+def uses(text):
+    """The lines that bring in what the text names."""
+    words = set(re.findall(r"(?<![\w.-])[\w-]+", text))
+    lines = []
+    for module, names in NAMES:
+        found = [name for name in names if name in words]
+        if found:
+            lines.append(f"use {module}.{{{', '.join(found)}}}")
+    lines += [f"use {module} as {name}" for module, name in MODULES if re.search(rf"(?<![\w.]){name}\.", text)]
+    return lines
+
+
+def write(loop, file, goals, text):
+    module = "Rattle.c_expr_parser.proofs." + loop.function.replace("/", ".")
+    lines = [GENERATED, *uses(text), f"use {module}.{goals} as goal"]
+    (PROOFS / loop.function / file).write_text("\n".join(lines) + "\n" + text)
+
+
+def invariant(loop):
+    """What is left of the whole list is read by the turns that are left."""
+    given = "g l" if loop.is_method else "l"
+    if loop.told:
+        list_read, told = f"TellingListing {loop.goes} {loop.item} {loop.step}", f"l.{loop.told} "
+    else:
+        list_read, told = f"Listing {loop.goes} {loop.item}", ""
+    return f"""
+abbrev pub invariant-loop-turn : goal.invariant-loop-turn
+invariant-loop-turn {given} = {list_read} ({loop.whole} l.fn.input) l.fn.input l._turn-end l._turn {told}l.found l.input
+""".replace("@", INSIDE)
+
+
+def answer(loop, name, term, opened=""):
+    given = "g c" if loop.is_method else "c"
+    unfolding = f"unfolding {opened}\n" if opened else ""
+    return f"\npub {name} : goal.{name}\n{unfolding}{name} {given} = {term}\n"
+
+
+def answers(loop):
+    more = "c.loop-turn.invariant c.loop-turn-test.true"
+    refused, read = f"c.in_err-{loop.read}.ensures", f"c.in_ok-{loop.read}.ensures"
+    told = "(cc)" if loop.told else "refl"
+    text = ""
+    if loop.opened:
+        text += answer(loop, "loop-turn-init", "first_of (search rules, grind (arith, common_steps))", loop.opened)
+    text += answer(loop, f"returns-then-{loop.test}-clause-reads", f"items_end {more} ({loop.by})")
+    text += answer(loop, f"returns-in_err-{loop.read}-clause-reads", f"let e = item_refused {more} ({loop.by}) {refused}.reads in search (rules, e)")
+    text += answer(loop, "loop-turn-preserved", f"item_read {more} ({loop.by}) {read}.reads {read}.keeps {told} c.in_ok-{loop.push}.ensures.ok")
+    text += answer(loop, "returns-clause-reads", "turns_end c.loop-turn.invariant c.loop-turn-test.false")
     return text
 
 
-def write(path, invariants, proofs):
-    folder = R + path
-    os.makedirs(folder, exist_ok=True)
-    module = 'Rattle.c_expr_parser.proofs.' + path.replace('/', '.')
-    with open(folder + '/Invariants.antt', 'w') as file:
-        file.write('use Rattle.std.proofs.Common.{◌-◌}\n' + HEAD + f'use Rattle.c_expr_parser.proofs.Turns.{{Reading}}\nuse {module}.Given as goal\n' + invariants)
-    with open(folder + '/Answers.antt', 'w') as file:
-        file.write('use Rattle.std.proofs.Common.{rules, arith}\nuse Rattle.std.proofs.lemmas.Grind.{common_steps}\n' + HEAD
-                   + f'use Rattle.c_expr_parser.proofs.Turns.{{item_read, item_refused, items_end, turns_end}}\nuse {module}.Goals as goal\n' + proofs)
+def main():
+    for loop in LOOPS:
+        (PROOFS / loop.function).mkdir(parents=True, exist_ok=True)
+        write(loop, "Invariants.antt", "Given", invariant(loop))
+        write(loop, "Answers.antt", "Goals", answers(loop))
 
 
-def method(function, whole, goes, item, guard, call, unfolding, **named):
-    write('grammar/Grammar/' + function, invariant('invariant-loop-turn', whole, goes, item, **named), answers('', goes, item, guard, call, unfolding, **named))
-
-
-method('suffixes', 'parts.suffixes @', '(λ _. goes production.postfix)', '(λ _. expressions.one_suffix @)', 'not-goes', 'suffix', 'parts.suffixes')
-method('more_arguments', 'expressions.nexts production.comma ($.expr production.assignment)', '(λ _. goes production.comma)', '(λ _. expressions.after_operator ($.expr production.assignment))', 'not-goes', 'argument', 'expressions.nexts')
-method('run', 'parts.run @', 'expressions.goes_prefix', '(λ _. expressions.one_prefix @)', 'not-goes_prefix', 'prefix', 'parts.run', step='(λ _. ties)', state='#.tight')
-method('branches', 'parts.branches @', '(λ _. goes production.conditional)', '(λ _. expressions.branch @)', 'not-goes', 'branch', 'parts.branches')
-method('targets', 'parts.targets @ (is_unary l.first)', 'expressions.goes_assign', '(λ _. expressions.after_operator (expressions.conditional @))', 'not-goes', 'next', 'parts.targets', step='expressions.last_unary', state='#.unary')
-method('comma_rest', 'expressions.nexts production.comma (expressions.assignment @)', '(λ _. goes production.comma)', '(λ _. expressions.after_operator (expressions.assignment @))', 'not-goes', 'comma_next', 'expressions.nexts')
-LITERALS = ('(λ _ i. is_bytes (peek i.1))', '(λ _. one expressions.literal_at)')
-write('operands/more_literals', invariant('invariant-loop-turn', 'parts.literals l.fn.first', *LITERALS, method=False), answers('', *LITERALS, 'not-is_bytes', 'literal', arguments='c'))
+main()

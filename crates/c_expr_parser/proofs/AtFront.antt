@@ -4,13 +4,11 @@ use Rattle.std.proofs.Common.{ap, sym, ◌∙◌, arith, take, length-append, le
 use Rattle.std.proofs.lemmas.List.{take-append-drop}
 use Rattle.std.proofs.Math.Seq.{take-length}
 use Rattle.c_tree.specs.declared.token.Pos.{Pos}
-use Rattle.c_tree.specs.declared.token.Token.{Token}
 use Rattle.c_tree.specs.declared.expression.Expr.{Expr}
 use Rattle.c_tree.specs.declared.specifier.Specifier.{Specifier}
 use Rattle.c_tree.specs.declared.declarator.Declarator.{Declarator}
 use Rattle.c_tree.specs.Levels.Names.{Names}
 use Rattle.c_tree.specs.Levels.Productions.{conditional, assignment, comma}
-use Rattle.c_tree.specs.Levels.Facts as facts
 use Rattle.c_grammar.specs.Input.{Tokens, State, Outcome, Parser, Reason, Syntax, Nest, and_then, pure}
 use Rattle.c_grammar.specs.Fronts.{Trees, OkAtFront, DeclaresNoTypedefs, Found as FrontFound}
 use Rattle.c_grammar.specs.Productions as trees

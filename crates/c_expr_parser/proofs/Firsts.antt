@@ -1,19 +1,16 @@
 -- A production that reads a list of which one item must stand, by the list of all its items.
-use Rattle.std.specs.Prelude.{◌≡◌, ℕ, Bool, false, List, [], ◌∷◌, Option, Some, None, length, Ok, Err, refl}
+use Rattle.std.specs.Prelude.{◌≡◌, ℕ, Bool, false, List, [], ◌∷◌, Option, None, length, Ok, Err, refl}
 use Rattle.std.proofs.Common.{ap, sym, ◌∙◌}
 use Rattle.c_tree.specs.declared.token.Pos.{Pos}
 use Rattle.c_tree.specs.declared.token.Punct.TheVariants as p
 use Rattle.c_tree.specs.declared.expression.Identifier.{Identifier}
-use Rattle.c_tree.specs.declared.specifier.Specifier.{Specifier}
 use Rattle.c_tree.specs.declared.specifier.Specifier.TheVariants as specifier
-use Rattle.c_tree.specs.declared.specifier.Member.{Member, roll-Member}
-use Rattle.c_tree.specs.declared.specifier.MemberDeclarator.{MemberDeclarator}
-use Rattle.c_tree.specs.declared.specifier.Enumerator.{Enumerator}
+use Rattle.c_tree.specs.declared.specifier.Member.{roll-Member}
 use Rattle.c_tree.specs.declared.declarator.Parameter.{Parameter}
 use Rattle.c_tree.specs.declared.declarator.DeclaratorSuffix.{DeclaratorSuffix}
 use Rattle.c_tree.specs.declared.declarator.DeclaratorSuffix.TheVariants as suffix
 use Rattle.c_tree.specs.Levels.Names.{Names}
-use Rattle.c_grammar.specs.Input.{State, Outcome, Parser, ◌>>=◌, and_then, pure, sees, expect, opening, loop, many, many_by, enclosed}
+use Rattle.c_grammar.specs.Input.{State, Outcome, Parser, ◌>>=◌, and_then, pure, sees, expect, opening, loop, many, many_by}
 use Rattle.c_grammar.specs.Read.Nodes.{is_type, name_type}
 use Rattle.c_grammar.specs.Read.Inner.{Inner}
 use Rattle.c_grammar.specs.Read.Specifiers as specifiers

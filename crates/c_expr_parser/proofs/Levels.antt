@@ -1,13 +1,17 @@
 -- The levels of operators: read one in the other, or one behind the other.
-use Rattle.std.specs.Prelude.{◌≡◌, ℕ, zero, suc, ◌+◌, ◌-◌, ◌<◌, ◌≤◌, List, Ok, Err, refl}
+use Rattle.std.specs.Prelude.{◌≡◌, ◌≢◌, ℕ, zero, suc, ◌+◌, ◌-◌, ◌<◌, ◌≤◌, List, Ok, Err, refl}
 use Rattle.std.proofs.Common.{ap, sym, ◌∙◌, add-one, arith}
+use Rattle.c_tree.specs.declared.expression.Level.{Level}
 use Rattle.c_tree.specs.declared.expression.Expr.{Expr}
 use Rattle.c_tree.specs.declared.expression.Next.{Next}
-use Rattle.c_grammar.specs.Input.{State, Parser, Outcome, Fault, ◌>>=◌, and_then, pure}
+use Rattle.c_grammar.specs.Input.{State, Tokens, Parser, Outcome, Fault, and_then, pure}
 use Rattle.c_grammar.specs.Read.Inner.{Inner}
 use Rattle.c_grammar.specs.Read.Nodes.{with_operands}
 use Rattle.c_grammar.specs.Read.Expressions.{cast, binary, or, and, bit_or, bit_xor, bit_and, equality, relation, shift, sum, product}
+use Rattle.c_expr_parser.specs.declared.fault.Stop.{Stop}
+use Rattle.c_expr_parser.specs.declared.fault.Stop.TheVariants as stop
 use Rattle.c_expr_parser.specs.Parts.{level_at, levels, level_rest}
+use Rattle.c_expr_parser.specs.Reads.{Keeps, reason_of}
 use Rattle.c_expr_parser.proofs.Turns.{one_more, no_more}
 
 pub all_levels : (more : ℕ) (inner : Inner) (i : State) → or more inner i ≡ levels more inner 10 i
@@ -53,21 +57,29 @@ pub no_cast : (more : ℕ) (inner : Inner) (n : ℕ) (i : State) (e : Fault) →
 unfolding levels
 no_cast more inner n i e refused = sym (climbed more inner n 0 n i (omega arith)) ∙ ap (λ r. and_then r (climb more inner n 0)) refused
 
--- one more level
-pub level_read : {whole : Outcome Expr} (more : ℕ) (inner : Inner) (n at : ℕ) (tree : Expr) (i : State)
-    → at < n → whole ≡ climb more inner (n - at) at tree i → (rest : List Next) (j : State) → level_rest more inner at i ≡ Ok (rest, j)
-    → whole ≡ climb more inner (n - (at + 1)) (at + 1) (with_operands (level_at at) tree rest) j
-unfolding climb
-level_read more inner n at tree i below same rest j read = one_more (λ m. climb more inner m at tree i) n at below same ∙ rw read refl
+-- The levels below `at` are read: behind the tree so far, the levels that are left give what all of them give. The marks of
+-- the names are good.
+pub record Climbing (more : ℕ) (inner : Inner) (whole : Outcome Expr) (old : State) (n at : ℕ) (tree : Expr) (now : State) : Type 0 where
+  pub same : whole ≡ climb more inner (n - at) at tree now
+  pub keeps : Keeps old now
 
--- a level that is refused
-pub level_refused : {whole : Outcome Expr} (more : ℕ) (inner : Inner) (n at : ℕ) (tree : Expr) (i : State)
-    → at < n → whole ≡ climb more inner (n - at) at tree i → (e : Fault) → level_rest more inner at i ≡ Err e → whole ≡ Err e
-unfolding climb
-level_refused more inner n at tree i below same e refused = one_more (λ m. climb more inner m at tree i) n at below same ∙ rw refused refl
+module _ {more : ℕ} {inner : Inner} {whole : Outcome Expr} {old : State} {n at : ℕ} {tree : Expr} {i : State} where
+  -- one more level
+  pub level_read : Climbing more inner whole old n at tree i → at < n → {rest : List Next} {j : State} → level_rest more inner at i ≡ Ok (rest, j) → Keeps i j
+      → {level : Level} → level ≡ level_at at → {all : Expr} → all ≡ with_operands level tree rest → Climbing more inner whole old n (at + 1) all j
+  unfolding climb
+  level_read so_far below {rest} {j} read keeps {level} there {all} is = record {
+    same = one_more (λ m. climb more inner m at tree i) n at below so_far.same ∙ rw (read, is, there) refl;
+    keeps = λ mark names m. keeps mark names (so_far.keeps mark names m);
+  }
 
--- no more levels
-pub levels_end : {whole : Outcome Expr} (more : ℕ) (inner : Inner) (n at : ℕ) (tree : Expr) (i : State)
-    → n ≤ at → whole ≡ climb more inner (n - at) at tree i → whole ≡ Ok (tree, i)
-unfolding climb
-levels_end more inner n at tree i done same = no_more (λ m. climb more inner m at tree i) n at done same
+  -- a level that is refused
+  pub level_refused : Climbing more inner whole old n at tree i → at < n
+      → {e : Stop} {left : Tokens} → (e ≢ stop.Memory → level_rest more inner at i ≡ Err (reason_of e, left)) → e ≢ stop.Memory → whole ≡ Err (reason_of e, left)
+  unfolding climb
+  level_refused so_far below refused = λ not_memory. one_more (λ m. climb more inner m at tree i) n at below so_far.same ∙ rw (refused not_memory) refl
+
+  -- no more levels
+  pub levels_end : Climbing more inner whole old n at tree i → n ≤ at → whole ≡ Ok (tree, i)
+  unfolding climb
+  levels_end so_far done = no_more (λ m. climb more inner m at tree i) n at done so_far.same

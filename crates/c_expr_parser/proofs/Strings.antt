@@ -2,9 +2,8 @@
 use Rattle.std.specs.Prelude.{◌≡◌, ℕ, List, [], ◌∷◌, length, Ok, Err, refl}
 use Rattle.std.proofs.Common.{ap, sym, ◌∙◌}
 use Rattle.c_tree.specs.declared.expression.Literal.{Literal}
-use Rattle.c_tree.specs.declared.expression.Expr.{Expr}
 use Rattle.c_tree.specs.declared.expression.Expr.TheVariants as expr
-use Rattle.c_grammar.specs.Input.{State, Parser, Outcome, Fault, ◌>>=◌, and_then, pure, one, peek, is_bytes, many, loop}
+use Rattle.c_grammar.specs.Input.{State, Outcome, Fault, ◌>>=◌, and_then, pure, one, peek, is_bytes, many}
 use Rattle.c_grammar.specs.Read.Inner.{Inner}
 use Rattle.c_grammar.specs.Read.Expressions.{literal_at, strings}
 use Rattle.c_expr_parser.specs.Parts.{literals}

@@ -1,5 +1,5 @@
 -- What the calls ensure, by the trees of a production and the grammar's function on lists.
-use Rattle.std.specs.Prelude.{◌≡◌, ◌≢◌, ℕ, ◌+◌, ◌≤◌, true, List, ◌++◌, length, drop, Option, Some, None, Result, Ok, Err, IfOk, IfErr}
+use Rattle.std.specs.Prelude.{◌≡◌, ◌≢◌, ℕ, ◌+◌, ◌≤◌, true, ◌++◌, length, drop, Option, Some, None, Result, Ok, Err, IfOk, IfErr}
 use Rattle.c_tree.specs.declared.token.Pos.{Pos}
 use Rattle.c_tree.specs.Levels.Names.{Names}
 use Rattle.c_grammar.specs.Input.{Tokens, Reason, Syntax, Nest, Parser}

@@ -1,5 +1,5 @@
 -- Parts of the productions: lists of which the first item is read or is given, and the levels of operators as one function.
-use Rattle.std.specs.Prelude.{ℕ, zero, suc, Bool, false, ◌&&◌, ◌||◌, List, [], ◌∷◌, Option, Some, None, length, slice_index_or}
+use Rattle.std.specs.Prelude.{ℕ, zero, suc, Bool, false, ◌&&◌, ◌||◌, List, [], ◌∷◌, None, length, slice_index_or}
 use Rattle.c_tree.specs.declared.token.Pos.{Pos}
 use Rattle.c_tree.specs.declared.token.Punct.TheVariants as p
 use Rattle.c_tree.specs.declared.expression.Literal.{Literal}
@@ -10,7 +10,6 @@ use Rattle.c_tree.specs.declared.expression.Prefix.{Prefix}
 use Rattle.c_tree.specs.declared.expression.Suffix.{Suffix}
 use Rattle.c_tree.specs.declared.expression.Next.{Next}
 use Rattle.c_tree.specs.declared.expression.Branch.{Branch}
-use Rattle.c_tree.specs.declared.specifier.Specifier.{Specifier}
 use Rattle.c_tree.specs.declared.specifier.Member.{Member}
 use Rattle.c_tree.specs.declared.specifier.MemberDeclarator.{MemberDeclarator}
 use Rattle.c_tree.specs.declared.specifier.Enumerator.{Enumerator}
@@ -18,7 +17,7 @@ use Rattle.c_tree.specs.declared.declarator.Parameter.{Parameter}
 use Rattle.c_tree.specs.declared.declarator.DeclaratorSuffix.{DeclaratorSuffix}
 use Rattle.c_tree.specs.Levels.Productions as production
 use Rattle.c_tree.specs.Levels.Facts.{Use}
-use Rattle.c_grammar.specs.Input.{State, Parser, ◌>>=◌, pure, peek, behind, is_bytes, sees, goes, one, many, many_by, loop}
+use Rattle.c_grammar.specs.Input.{State, Parser, ◌>>=◌, peek, behind, is_bytes, sees, goes, one, many, many_by, loop}
 use Rattle.c_grammar.specs.Read.Nodes.{ties}
 use Rattle.c_grammar.specs.Read.Inner.{Inner, is_const}
 use Rattle.c_grammar.specs.Read.Expressions as expressions

@@ -1,5 +1,5 @@
 -- What a function that reads from a cursor ensures.
-use Rattle.std.specs.Prelude.{◌≡◌, ◌≢◌, ℕ, List, [], ◌∷◌, Option, Some, None, Result, Ok, Err}
+use Rattle.std.specs.Prelude.{◌≡◌, ◌≢◌, ℕ, [], ◌∷◌, Option, Some, None, Result, Ok, Err}
 use Rattle.scope_map.specs.Scopes.{Marked}
 use Rattle.c_tree.specs.declared.token.Pos.{Pos}
 use Rattle.c_tree.specs.Levels.Names.{Names}

@@ -1,4 +1,4 @@
-use Rattle.std.proofs.Common.{◌≡◌, ℕ, suc, ◌+◌, ◌-◌, ◌≤◌, length, drop, Option, Ok, Err, ◌∙◌, ap, rules, arith, add-one, length-drop}
+use Rattle.std.proofs.Common.{◌≡◌, suc, ◌+◌, ◌-◌, length, drop, Option, Ok, Err, ◌∙◌, ap, rules, arith, add-one, length-drop}
 use Rattle.std.proofs.lemmas.Grind.{common_steps}
 use Rattle.c_tree.specs.declared.token.Pos.{Pos}
 use Rattle.c_grammar.specs.Read.Depth as grammar

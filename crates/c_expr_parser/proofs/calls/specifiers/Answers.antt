@@ -1,4 +1,3 @@
-use Rattle.std.proofs.Common.{arith}
 use Rattle.c_grammar.specs.Productions as trees
 use Rattle.c_grammar.specs.Read.Depth as grammar
 use Rattle.c_grammar.specs.Laws.Productions.{specifiers_at_front, no_typedefs_declared}

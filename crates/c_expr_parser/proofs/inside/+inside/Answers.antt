@@ -1,6 +1,5 @@
 use Rattle.std.proofs.Common.{◌≡◌, ◌∙◌, ap, arith}
 use Rattle.c_grammar.specs.Read.Depth.{inside}
-use Rattle.c_expr_parser.specs.Reads.{Reads}
 use Rattle.c_expr_parser.specs.Wanted.{read}
 use Rattle.c_expr_parser.proofs.Turns.{deeper}
 use Rattle.c_expr_parser.proofs.Depth.{no_deeper}

@@ -1,31 +1,16 @@
-use Rattle.std.proofs.Common.{rules, arith}
-use Rattle.std.proofs.lemmas.Grind.{common_steps}
-use Rattle.c_tree.specs.Levels.Productions as production
-use Rattle.c_grammar.specs.Input.{loop, goes, peek, is_bytes, one}
-use Rattle.c_grammar.specs.Read.Nodes.{ties, is_unary}
-use Rattle.c_grammar.specs.Read.Expressions as expressions
-use Rattle.c_grammar.specs.Read.Depth.{inside}
-use Rattle.c_expr_parser.specs.Parts as parts
+-- Written by tools/parser_loops.py.
+use Rattle.std.proofs.Common.{rules, refl}
 use Rattle.c_expr_parser.proofs.Turns.{item_read, item_refused, items_end, turns_end}
 use Rattle.c_expr_parser.proofs.operands.more_literals.Goals as goal
 
 pub returns-then-not-is_bytes-clause-reads : goal.returns-then-not-is_bytes-clause-reads
-returns-then-not-is_bytes-clause-reads c =
-    let e = items_end {S = Unit {0}} (λ _ i. is_bytes (peek i.1)) (λ _. one expressions.literal_at) (λ _ _. tt) _ c.loop-turn._turn tt c.loop-turn.found c.loop-turn.input c.loop-turn-test.true c.loop-turn.invariant.same in
-    first_of (search (rules, e), grind (arith, common_steps, e))
+returns-then-not-is_bytes-clause-reads c = items_end c.loop-turn.invariant c.loop-turn-test.true (cc)
 
 pub returns-in_err-literal-clause-reads : goal.returns-in_err-literal-clause-reads
-returns-in_err-literal-clause-reads c =
-    let e = item_refused {S = Unit {0}} (λ _ i. is_bytes (peek i.1)) (λ _. one expressions.literal_at) (λ _ _. tt) _ c.loop-turn._turn tt c.loop-turn.found c.loop-turn.input c.loop-turn-test.true c.loop-turn.invariant.same in
-    first_of (search (rules, e), grind (arith, common_steps, e))
+returns-in_err-literal-clause-reads c = let e = item_refused c.loop-turn.invariant c.loop-turn-test.true (cc) c.in_err-literal.ensures.reads in search (rules, e)
 
 pub loop-turn-preserved : goal.loop-turn-preserved
-unfolding loop
-loop-turn-preserved c =
-    let e = item_read {S = Unit {0}} (λ _ i. is_bytes (peek i.1)) (λ _. one expressions.literal_at) (λ _ _. tt) _ c.loop-turn._turn tt c.loop-turn.found c.loop-turn.input c.loop-turn-test.true c.loop-turn.invariant.same in
-    first_of (search (rules, e), grind (arith, common_steps, e))
+loop-turn-preserved c = item_read c.loop-turn.invariant c.loop-turn-test.true (cc) c.in_ok-literal.ensures.reads c.in_ok-literal.ensures.keeps refl c.in_ok-push-2.ensures.ok
 
 pub returns-clause-reads : goal.returns-clause-reads
-returns-clause-reads c =
-    let e = turns_end {S = Unit {0}} (λ _ i. is_bytes (peek i.1)) (λ _. one expressions.literal_at) (λ _ _. tt) _ c.loop-turn._turn tt c.loop-turn.found c.loop-turn.input c.loop-turn-test.false c.loop-turn.invariant.same in
-    first_of (search (rules, e), grind (arith, common_steps, e))
+returns-clause-reads c = turns_end c.loop-turn.invariant c.loop-turn-test.false

@@ -1,10 +1,9 @@
-use Rattle.std.proofs.Common.{◌-◌}
-use Rattle.c_grammar.specs.Input.{loop}
-use Rattle.c_grammar.specs.Read.Declarators as declarators
+-- Written by tools/parser_loops.py.
 use Rattle.c_grammar.specs.Read.Depth.{inside}
+use Rattle.c_expr_parser.proofs.Turns.{Listing}
+use Rattle.c_grammar.specs.Read.Declarators as declarators
 use Rattle.c_expr_parser.specs.Parts as parts
-use Rattle.c_expr_parser.proofs.Turns.{Reading}
 use Rattle.c_expr_parser.proofs.grammar.Grammar.declarator_suffixes.Given as goal
 
 abbrev pub invariant-loop-turn : goal.invariant-loop-turn
-invariant-loop-turn g l = Reading (parts.declarator_suffixes l.self.more (inside l.self.more) l.fn.input) (loop {S = Unit {0}} (λ _. parts.goes_declarator_suffix) (λ _. declarators.one_suffix l.self.more (inside l.self.more)) (λ _ _. tt) (l._turn-end - l._turn) tt l.found l.input) l.fn.input l.input
+invariant-loop-turn g l = Listing parts.goes_declarator_suffix (declarators.one_suffix l.self.more (inside l.self.more)) (parts.declarator_suffixes l.self.more (inside l.self.more) l.fn.input) l.fn.input l._turn-end l._turn l.found l.input

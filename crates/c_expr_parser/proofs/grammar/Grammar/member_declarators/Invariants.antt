@@ -1,11 +1,11 @@
-use Rattle.std.proofs.Common.{◌-◌}
-use Rattle.c_tree.specs.declared.token.Punct.TheVariants as p
-use Rattle.c_grammar.specs.Input.{loop, sees}
-use Rattle.c_grammar.specs.Read.Specifiers as specifiers
+-- Written by tools/parser_loops.py.
+use Rattle.c_grammar.specs.Input.{sees}
 use Rattle.c_grammar.specs.Read.Depth.{inside}
+use Rattle.c_expr_parser.proofs.Turns.{Listing}
+use Rattle.c_tree.specs.declared.token.Punct.TheVariants as p
+use Rattle.c_grammar.specs.Read.Specifiers as specifiers
 use Rattle.c_expr_parser.specs.Parts as parts
-use Rattle.c_expr_parser.proofs.Turns.{Reading}
 use Rattle.c_expr_parser.proofs.grammar.Grammar.member_declarators.Given as goal
 
 abbrev pub invariant-loop-turn : goal.invariant-loop-turn
-invariant-loop-turn g l = Reading (parts.member_declarators l.self.more (inside l.self.more) l.typed l.fn.input) (loop {S = Unit {0}} (λ _. sees p.Comma) (λ _. specifiers.next_member_declarator l.self.more (inside l.self.more) l.typed) (λ _ _. tt) (l._turn-end - l._turn) tt l.found l.input) l.fn.input l.input
+invariant-loop-turn g l = Listing (sees p.Comma) (specifiers.next_member_declarator l.self.more (inside l.self.more) l.typed) (parts.member_declarators l.self.more (inside l.self.more) l.typed l.fn.input) l.fn.input l._turn-end l._turn l.found l.input

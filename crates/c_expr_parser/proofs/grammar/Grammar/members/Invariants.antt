@@ -1,10 +1,9 @@
-use Rattle.std.proofs.Common.{◌-◌}
-use Rattle.c_grammar.specs.Input.{loop}
-use Rattle.c_grammar.specs.Read.Specifiers as specifiers
+-- Written by tools/parser_loops.py.
 use Rattle.c_grammar.specs.Read.Depth.{inside}
+use Rattle.c_expr_parser.proofs.Turns.{Listing}
+use Rattle.c_grammar.specs.Read.Specifiers as specifiers
 use Rattle.c_expr_parser.specs.Parts as parts
-use Rattle.c_expr_parser.proofs.Turns.{Reading}
 use Rattle.c_expr_parser.proofs.grammar.Grammar.members.Given as goal
 
 abbrev pub invariant-loop-turn : goal.invariant-loop-turn
-invariant-loop-turn g l = Reading (parts.members l.self.more (inside l.self.more) l.fn.input) (loop {S = Unit {0}} (λ _. specifiers.goes_member l.self.more (inside l.self.more)) (λ _. specifiers.member l.self.more (inside l.self.more)) (λ _ _. tt) (l._turn-end - l._turn) tt l.found l.input) l.fn.input l.input
+invariant-loop-turn g l = Listing (specifiers.goes_member l.self.more (inside l.self.more)) (specifiers.member l.self.more (inside l.self.more)) (parts.members l.self.more (inside l.self.more) l.fn.input) l.fn.input l._turn-end l._turn l.found l.input

@@ -1,12 +1,10 @@
-use Rattle.std.proofs.Common.{◌-◌}
-use Rattle.c_tree.specs.Levels.Productions as production
-use Rattle.c_grammar.specs.Input.{loop, goes, peek, is_bytes, one}
-use Rattle.c_grammar.specs.Read.Nodes.{ties, is_unary}
-use Rattle.c_grammar.specs.Read.Expressions as expressions
+-- Written by tools/parser_loops.py.
+use Rattle.c_grammar.specs.Read.Nodes.{ties}
 use Rattle.c_grammar.specs.Read.Depth.{inside}
+use Rattle.c_expr_parser.proofs.Turns.{TellingListing}
+use Rattle.c_grammar.specs.Read.Expressions as expressions
 use Rattle.c_expr_parser.specs.Parts as parts
-use Rattle.c_expr_parser.proofs.Turns.{Reading}
 use Rattle.c_expr_parser.proofs.grammar.Grammar.run.Given as goal
 
 abbrev pub invariant-loop-turn : goal.invariant-loop-turn
-invariant-loop-turn g l = Reading (parts.run l.self.more (inside l.self.more) l.fn.input) (loop expressions.goes_prefix (λ _. expressions.one_prefix l.self.more (inside l.self.more)) (λ _. ties) (l._turn-end - l._turn) l.tight l.found l.input) l.fn.input l.input
+invariant-loop-turn g l = TellingListing expressions.goes_prefix (λ _. expressions.one_prefix l.self.more (inside l.self.more)) (λ _. ties) (parts.run l.self.more (inside l.self.more) l.fn.input) l.fn.input l._turn-end l._turn l.tight l.found l.input
