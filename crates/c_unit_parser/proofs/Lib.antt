@@ -1,0 +1,9 @@
+pub mod Places
+pub mod Answers
+pub mod Marks
+pub mod Turns
+pub mod Firsts
+pub mod Called
+pub mod NextToName
+pub mod Puts
+pub mod Depth
