@@ -13,7 +13,9 @@ PLAIN = '(λ _ _. tt)'
 
 
 def put(text, more, of):
-    return text.replace('@', more).replace('#', of)
+    # a parameter that is moved before the loop is known by its value at the entry, and one behind a reference by what that points to
+    moved, behind = ('l.fn', '') if of == 'l' else (of, '.now')
+    return text.replace('@', more).replace('##', moved).replace('#', of).replace('^', behind)
 
 
 def loop(function, whole, goes, item, guard, call, unfolding, step=PLAIN, state='tt', found='found'):
@@ -59,7 +61,7 @@ pub {name} : goal.{name}
 
 
 loop('initialisers', 'parts.initialisers @', '(λ _. initialiser.goes_initialiser)', '(λ _. initialiser.next_initialiser @ (initialiser.inside_initialiser @))', 'goes_initialiser', 'next_initialiser', 'parts.initialisers')
-loop('more_declarators', 'parts.more_declarators @ #.specifiers #.first', '(λ _. sees p.Comma)', '(λ _. declaration.next_declarator @ #.specifiers)', 'sees', 'next_declarator', 'parts.more_declarators')
+loop('more_declarators', 'parts.more_declarators @ #.specifiers^ ##.first', '(λ _. sees p.Comma)', '(λ _. declaration.next_declarator @ #.specifiers^)', 'sees', 'next_declarator', 'parts.more_declarators')
 loop('items', 'parts.items @ #.labels', '(λ _. statement.goes_item)', '(λ _. (statement.within @).item #.labels)', 'goes_item', 'nested_item', 'parts.items')
 loop('others', 'parts.others @', 'statement.goes_else', '(λ _. statement.one_else @ (statement.within @))', 'goes_else', 'next', 'parts.others', step='statement.goes_further', state='#.may')
 loop('externals', 'unit.externals @', '(λ _. unit.goes_external)', '(λ _. unit.one_external @)', 'goes_external', 'external', 'unit.externals')

@@ -6,4 +6,5 @@ pub mod Firsts
 pub mod Called
 pub mod NextToName
 pub mod Puts
+pub mod Declared
 pub mod Depth

@@ -1,25 +1,29 @@
 -- What stands next to the name of a declarator, from what its parts tell.
-use Rattle.std.specs.Prelude.{◌≡◌, List, ◌++◌, map, refl}
+use Rattle.std.specs.Prelude.{◌≡◌, List, ◌++◌, map}
 use Rattle.std.proofs.Common.{ap, sym, ◌∙◌, subst}
-use Rattle.c_tree.specs.declared.declarator.Pointer.{Pointer}
 use Rattle.c_tree.specs.declared.declarator.Declarator.{Declarator, out-Declarator}
 use Rattle.c_tree.specs.Levels.Names.{Names, in_row}
-use Rattle.c_tree.specs.Levels.Facts as facts
-use Rattle.c_tree.specs.Levels.Trees as level
-use Rattle.c_unit_parser.specs.declared.nodes.Beside.{Beside}
-use Rattle.c_unit_parser.specs.declared.nodes.Beside.TheVariants as beside
+use Rattle.c_tree.specs.Levels.Facts.{SuffixFacts, Beside, Alone, Other, Listing, nearest}
+use Rattle.c_tree.specs.Levels.Trees.{declarator_level, declarator_level-is, direct_level, declarator_suffix_level}
+use Rattle.c_unit_parser.specs.declared.nodes.Beside as code
 use Rattle.c_unit_parser.specs.Beside.{Tells}
 
 module _ (d : Declarator) (names : Names) where
-  -- what is told of the suffixes behind the middle
-  abbrev pub suffixes_told : List facts.SuffixFacts
-  suffixes_told = (in_row (map level.declarator_suffix_level (out-Declarator d).suffixes) (names ++ (level.direct_level (out-Declarator d).direct names).1)).0
+  -- what the middle tells, and what the suffixes behind it tell
+  abbrev pub middle : Beside
+  middle = (direct_level (out-Declarator d).direct names).0.beside
 
-  beside_is : (level.declarator_level d names).0.beside ≡ facts.nearest (level.direct_level (out-Declarator d).direct names).0.beside suffixes_told (out-Declarator d).pointers
-  beside_is = ap (λ r. r.0.beside) (level.declarator_level-is d names)
+  abbrev pub behind : List SuffixFacts
+  behind = (in_row (map declarator_suffix_level (out-Declarator d).suffixes) (names ++ (direct_level (out-Declarator d).direct names).1)).0
 
-  behind_nothing : (b : Beside) (told : facts.Beside) → told ≡ facts.Alone → Tells b (facts.nearest facts.Alone suffixes_told (out-Declarator d).pointers) → Tells b (facts.nearest told suffixes_told (out-Declarator d).pointers)
-  behind_nothing b told is t = subst (λ (inner : facts.Beside). Tells b (facts.nearest inner suffixes_told (out-Declarator d).pointers)) (sym is) t
+  beside_is : (told : Beside) → middle ≡ told → (declarator_level d names).0.beside ≡ nearest told behind (out-Declarator d).pointers
+  beside_is told is = ap (λ r. r.0.beside) (declarator_level-is d names) ∙ ap (λ (inner : Beside). nearest inner behind (out-Declarator d).pointers) is
 
-  pub beside_alone : (b : Beside) → Tells beside.Alone (level.direct_level (out-Declarator d).direct names).0.beside → Tells b (facts.nearest facts.Alone suffixes_told (out-Declarator d).pointers) → Tells b (level.declarator_level d names).0.beside
-  beside_alone b inner t = subst (λ (told : facts.Beside). Tells b told) (sym beside_is) (behind_nothing b (level.direct_level (out-Declarator d).direct names).0.beside inner t)
+  pub beside_alone : (b : code.Beside) → middle ≡ Alone → Tells b (nearest Alone behind (out-Declarator d).pointers) → Tells b (declarator_level d names).0.beside
+  beside_alone b is tells = subst (λ (told : Beside). Tells b told) (sym (beside_is Alone is)) tells
+
+  pub beside_other : middle ≡ Other → (declarator_level d names).0.beside ≡ Other
+  beside_other is = beside_is Other is
+
+  pub beside_listing : (all : Names) → middle ≡ Listing all → (declarator_level d names).0.beside ≡ Listing all
+  beside_listing all is = beside_is (Listing all) is

@@ -44,6 +44,10 @@ row_with trees tree {old = old} p q = record {
   declares = λ at. row_append trees tree at ∙ ap (λ (l : Names). l ++ (tree (at ++ (in_row trees at).1)).1) (p.declares at) ∙ ap (λ (l : Names). p.names ++ l) (q.declares (at ++ (in_row trees at).1));
 }
 
+-- nothing
+pub no_names : (names : Names) → Puts {A = Unit {0}} (λ at. (tt, [])) names names
+no_names names = puts_nothing (λ at. (tt, [])) names (λ at. refl)
+
 pub no_row : {X A : Type 0} (f : X → With A) (names : Names) → Puts (in_row (map f [])) names names
 no_row f names = puts_nothing (in_row (map f [])) names (λ at. refl)
 

@@ -63,7 +63,7 @@ impl<F: Fn(Global, &mut Cursor<'_>, u32, Wanted) -> Result<Found, ParseFault>> G
     }
 
     /// A block, which is a scope.
-    #[tactic(auto, using(crate::proofs::Marks::mark_is_in, crate::proofs::Marks::kept_back))]
+    #[tactic(auto, using(c_expr_parser::proofs::Marks::mark_is_in, c_expr_parser::proofs::Marks::kept_back))]
     pub fn scoped_block(&self, input: &mut Cursor<'_>, labels: bool) -> Result<Block, ParseFault>
         requires { Nests self.now.more (F.pre self.now.inside) (F.post self.now.inside) }
         ensures reads { Reads (enclosed (spec.block self.now.more (within self.now.more) labels) input.old.state) input.old.end result input.new }

@@ -128,7 +128,7 @@ impl<F: Fn(Global, &mut Cursor<'_>, u32, Wanted) -> Result<Found, ParseFault>> G
         Ok(found)
     }
 
-    #[tactic(auto, using(crate::proofs::Firsts::declarators_are))]
+    #[tactic(auto, using(crate::proofs::Firsts::some_declarators_are), unfolding(c_unit_grammar::specs::Read::Declarations::declarators))]
     fn declarators(
         &self,
         input: &mut Cursor<'_>,

@@ -109,10 +109,10 @@ impl<F: Fn(Global, &mut Cursor<'_>, u32, Wanted) -> Result<Found, ParseFault>> G
     }
 
     /// An assignment expression, or initialisers in braces.
-    #[tactic(auto, unfolding(c_unit_grammar::specs::Read::Initialisers::one_initialiser))]
+    #[tactic(auto, unfolding(c_unit_grammar::specs::Read::Initialisers::initialiser, c_unit_grammar::specs::Read::Initialisers::inside_initialiser, c_unit_grammar::specs::Read::Initialisers::one_initialiser))]
     pub fn initialiser(&self, input: &mut Cursor<'_>) -> Result<Initialiser, ParseFault>
         requires { Nests self.now.more (F.pre self.now.inside) (F.post self.now.inside) }
-        ensures reads { Reads (spec.one_initialiser self.now.more (spec.inside_initialiser self.now.more) input.old.state) input.old.end result input.new }
+        ensures reads { Reads (spec.initialiser self.now.more input.old.state) input.old.end result input.new }
         ensures keeps { OnOk result (Keeps input.old.state input.new.state) }
         ensures ends { input.new.end ≡ input.old.end }
     {

@@ -1,6 +1,6 @@
 //! The recursion on what may still be nested.
 
-ghost use Rattle.std.specs.Prelude.{◌≡◌, suc, zero, ◌≤◌, OnOk};
+ghost use Rattle.std.specs.Prelude.{◌≡◌, suc, ◌≤◌, OnOk};
 ghost use Rattle.c_expr_parser.specs.Reads.{Keeps};
 ghost use Rattle.c_unit_parser.specs.Wanted.{read};
 ghost use Rattle.c_unit_parser.specs.Reads.{Reads};
@@ -12,9 +12,9 @@ use crate::wanted::{Found, Wanted};
 use c_expr_parser::ParseFault;
 use std::alloc::Global;
 
-// Where no more may be nested, a body that is no block is nested too deeply at the first token of a statement.
+/// Where no more may be nested, a body that is no block is nested too deeply at the first token of a statement.
 #[tactic(auto, unfolding(c_unit_grammar::specs::Read::Initialisers::inside_initialiser, c_unit_grammar::specs::Read::Declarations::inside_declaration, c_unit_grammar::specs::Read::Statements::within))]
-fn nowhere(input: &Cursor<'_>, wanted: Wanted) -> Result<Found, ParseFault>
+pub fn nowhere(input: &Cursor<'_>, wanted: Wanted) -> Result<Found, ParseFault>
     ensures { Reads (read 0 wanted input.now.state) input.now.end result input.now }
 {
     match wanted {
@@ -31,7 +31,7 @@ fn nowhere(input: &Cursor<'_>, wanted: Wanted) -> Result<Found, ParseFault>
 
 impl<F: Fn(Global, &mut Cursor<'_>, u32, Wanted) -> Result<Found, ParseFault>> Grammar<F> {
     /// What is wanted.
-    #[tactic(auto, unfolding(c_unit_grammar::specs::Read::Initialisers::inside_initialiser, c_unit_grammar::specs::Read::Declarations::inside_declaration, c_unit_grammar::specs::Read::Statements::within))]
+    #[tactic(auto, unfolding(c_unit_grammar::specs::Read::Initialisers::initialiser, c_unit_grammar::specs::Read::Initialisers::inside_initialiser, c_unit_grammar::specs::Read::Declarations::inside_declaration, c_unit_grammar::specs::Read::Statements::within))]
     fn read(&self, input: &mut Cursor<'_>, wanted: Wanted) -> Result<Found, ParseFault>
         requires { Nests self.now.more (F.pre self.now.inside) (F.post self.now.inside) }
         ensures reads { Reads (read (suc self.now.more) wanted input.old.state) input.old.end result input.new }

@@ -105,7 +105,7 @@ impl<F: Fn(Global, &mut Cursor<'_>, u32, Wanted) -> Result<Found, ParseFault>> G
         })
     }
 
-    #[tactic(auto, unfolding(c_unit_grammar::specs::Read::Statements::expression_statement))]
+    #[tactic(auto, using(crate::proofs::Depth::behind_bracket), unfolding(c_unit_grammar::specs::Read::Statements::expression_statement))]
     fn expression_statement(&self, input: &mut Cursor<'_>) -> Result<Stmt, ParseFault>
         requires { Nests self.now.more (F.pre self.now.inside) (F.post self.now.inside) }
         ensures reads { Reads (spec.expression_statement self.now.more input.old.state) input.old.end result input.new }
@@ -140,7 +140,7 @@ impl<F: Fn(Global, &mut Cursor<'_>, u32, Wanted) -> Result<Found, ParseFault>> G
         Ok(Stmt::Continue(word, semicolon))
     }
 
-    #[tactic(auto, unfolding(c_unit_grammar::specs::Read::Statements::return_statement))]
+    #[tactic(auto, using(crate::proofs::Depth::behind_bracket), unfolding(c_unit_grammar::specs::Read::Statements::return_statement))]
     fn return_statement(&self, input: &mut Cursor<'_>) -> Result<Stmt, ParseFault>
         requires { Nests self.now.more (F.pre self.now.inside) (F.post self.now.inside) }
         ensures reads { Reads (spec.return_statement self.now.more input.old.state) input.old.end result input.new }
@@ -166,7 +166,7 @@ impl<F: Fn(Global, &mut Cursor<'_>, u32, Wanted) -> Result<Found, ParseFault>> G
     }
 
     /// A body, which is a scope (C11 6.8.4p3, 6.8.5p5).
-    #[tactic(auto, using(crate::proofs::Marks::mark_is_in, crate::proofs::Marks::kept_back), unfolding(c_unit_grammar::specs::Read::Statements::body))]
+    #[tactic(auto, using(c_expr_parser::proofs::Marks::mark_is_in, c_expr_parser::proofs::Marks::kept_back), unfolding(c_unit_grammar::specs::Read::Statements::body))]
     fn body(&self, input: &mut Cursor<'_>) -> Result<Boxed<Stmt>, ParseFault>
         requires { Nests self.now.more (F.pre self.now.inside) (F.post self.now.inside) }
         ensures reads { Reads (spec.body self.now.more (within self.now.more) input.old.state) input.old.end result input.new }
@@ -244,7 +244,7 @@ impl<F: Fn(Global, &mut Cursor<'_>, u32, Wanted) -> Result<Found, ParseFault>> G
         Ok(found)
     }
 
-    #[tactic(auto, using(crate::proofs::Marks::mark_is_in, crate::proofs::Marks::kept_back), unfolding(c_unit_grammar::specs::Read::Statements::if_statement, crate::specs::Parts::others))]
+    #[tactic(auto, using(c_expr_parser::proofs::Marks::mark_is_in, c_expr_parser::proofs::Marks::kept_back), unfolding(c_unit_grammar::specs::Read::Statements::if_statement, crate::specs::Parts::others))]
     fn if_statement(&self, input: &mut Cursor<'_>) -> Result<Stmt, ParseFault>
         requires { Nests self.now.more (F.pre self.now.inside) (F.post self.now.inside) }
         ensures reads { Reads (spec.if_statement self.now.more (within self.now.more) input.old.state) input.old.end result input.new }
@@ -265,7 +265,7 @@ impl<F: Fn(Global, &mut Cursor<'_>, u32, Wanted) -> Result<Found, ParseFault>> G
         })
     }
 
-    #[tactic(auto, using(crate::proofs::Marks::mark_is_in, crate::proofs::Marks::kept_back), unfolding(c_unit_grammar::specs::Read::Statements::while_statement))]
+    #[tactic(auto, using(c_expr_parser::proofs::Marks::mark_is_in, c_expr_parser::proofs::Marks::kept_back), unfolding(c_unit_grammar::specs::Read::Statements::while_statement))]
     fn while_statement(&self, input: &mut Cursor<'_>) -> Result<Stmt, ParseFault>
         requires { Nests self.now.more (F.pre self.now.inside) (F.post self.now.inside) }
         ensures reads { Reads (spec.while_statement self.now.more (within self.now.more) input.old.state) input.old.end result input.new }
@@ -280,7 +280,7 @@ impl<F: Fn(Global, &mut Cursor<'_>, u32, Wanted) -> Result<Found, ParseFault>> G
         Ok(Stmt::While(word, condition, body))
     }
 
-    #[tactic(auto, using(crate::proofs::Marks::mark_is_in, crate::proofs::Marks::kept_back), unfolding(c_unit_grammar::specs::Read::Statements::do_statement))]
+    #[tactic(auto, using(c_expr_parser::proofs::Marks::mark_is_in, c_expr_parser::proofs::Marks::kept_back), unfolding(c_unit_grammar::specs::Read::Statements::do_statement))]
     fn do_statement(&self, input: &mut Cursor<'_>) -> Result<Stmt, ParseFault>
         requires { Nests self.now.more (F.pre self.now.inside) (F.post self.now.inside) }
         ensures reads { Reads (spec.do_statement self.now.more (within self.now.more) input.old.state) input.old.end result input.new }
@@ -303,7 +303,7 @@ impl<F: Fn(Global, &mut Cursor<'_>, u32, Wanted) -> Result<Found, ParseFault>> G
         })
     }
 
-    #[tactic(auto, using(crate::proofs::Marks::mark_is_in, crate::proofs::Marks::kept_back), unfolding(c_unit_grammar::specs::Read::Statements::for_statement))]
+    #[tactic(auto, using(c_expr_parser::proofs::Marks::mark_is_in, c_expr_parser::proofs::Marks::kept_back), unfolding(c_unit_grammar::specs::Read::Statements::for_statement))]
     fn for_statement(&self, input: &mut Cursor<'_>) -> Result<Stmt, ParseFault>
         requires { Nests self.now.more (F.pre self.now.inside) (F.post self.now.inside) }
         ensures reads { Reads (spec.for_statement self.now.more (within self.now.more) input.old.state) input.old.end result input.new }
@@ -318,7 +318,7 @@ impl<F: Fn(Global, &mut Cursor<'_>, u32, Wanted) -> Result<Found, ParseFault>> G
         Ok(Stmt::For(word, control, body))
     }
 
-    #[tactic(auto, using(crate::proofs::Marks::mark_is_in, crate::proofs::Marks::kept_back), unfolding(c_unit_grammar::specs::Read::Statements::switch_statement))]
+    #[tactic(auto, using(c_expr_parser::proofs::Marks::mark_is_in, c_expr_parser::proofs::Marks::kept_back), unfolding(c_unit_grammar::specs::Read::Statements::switch_statement))]
     fn switch_statement(&self, input: &mut Cursor<'_>) -> Result<Stmt, ParseFault>
         requires { Nests self.now.more (F.pre self.now.inside) (F.post self.now.inside) }
         ensures reads { Reads (spec.switch_statement self.now.more (within self.now.more) input.old.state) input.old.end result input.new }

@@ -31,7 +31,7 @@ fn goes_external(input: &Cursor<'_>) -> bool
 
 impl<F: Fn(Global, &mut Cursor<'_>, u32, Wanted) -> Result<Found, ParseFault>> Grammar<F> {
     // The block of a definition, whose scope has what the parameter list beside the name declares (C11 6.9.1p9).
-    #[tactic(auto, using(crate::proofs::Marks::mark_is_in, crate::proofs::Marks::kept_back), unfolding(c_unit_grammar::specs::Read::Units::function_body))]
+    #[tactic(auto, using(c_expr_parser::proofs::Marks::mark_is_in, c_expr_parser::proofs::Marks::kept_back), unfolding(c_unit_grammar::specs::Read::Units::function_body))]
     fn function_body(
         &self,
         input: &mut Cursor<'_>,
