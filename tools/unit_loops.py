@@ -64,4 +64,4 @@ loop('initialisers', 'parts.initialisers @', '(λ _. initialiser.goes_initialise
 loop('more_declarators', 'parts.more_declarators @ #.specifiers^ ##.first', '(λ _. sees p.Comma)', '(λ _. declaration.next_declarator @ #.specifiers^)', 'sees', 'next_declarator', 'parts.more_declarators')
 loop('items', 'parts.items @ #.labels', '(λ _. statement.goes_item)', '(λ _. (statement.within @).item #.labels)', 'goes_item', 'nested_item', 'parts.items')
 loop('others', 'parts.others @', 'statement.goes_else', '(λ _. statement.one_else @ (statement.within @))', 'goes_else', 'next', 'parts.others', step='statement.goes_further', state='#.may')
-loop('externals', 'unit.externals @', '(λ _. unit.goes_external)', '(λ _. unit.one_external @)', 'goes_external', 'external', 'unit.externals')
+loop('externals', 'parts.externals @', '(λ _. unit.goes_external)', '(λ _. unit.one_external @)', 'goes_external', 'external-2', 'parts.externals')

@@ -59,8 +59,8 @@ module _ (more : ℕ) where
   declaration_from_is specifiers d i = same_then (declarations.start more i) _ _ (λ s j. behind_one (sees p.Comma) (declarations.next_declarator more specifiers)
       (λ all. expect p.Semicolon >>= (λ at. pure (external.Declaration (record { specifiers = specifiers; declarators = all; semicolon = at })))) (record { comma = None; declarator = d; start = s }) j)
 
-  pub externals_are : (i : State) → units.externals more i ≡ and_then (units.one_external more i) (λ first. more_items units.goes_external (units.one_external more) first)
-  unfolding units.externals
+  pub externals_are : (i : State) → units.externals more i ≡ parts.externals more i
+  unfolding units.externals parts.externals
   externals_are i =
       list_read units.goes_external (units.one_external more) pure (units.one_external more i)
       ∙ and_pure (and_then (units.one_external more i) (λ first. more_items units.goes_external (units.one_external more) first))

@@ -7,4 +7,5 @@ pub mod Called
 pub mod NextToName
 pub mod Puts
 pub mod Declared
+pub mod Whole
 pub mod Depth

@@ -1,5 +1,5 @@
 -- A function value that reads what is nested by one more, where so many could be nested with that one.
-use Rattle.std.specs.Prelude.{◌≡◌, ℕ, ◌≤◌, Result}
+use Rattle.std.specs.Prelude.{◌≡◌, ℕ, ◌≤◌, Result, OnOk}
 use Rattle.std.specs.declared.alloc.Global.{Global}
 use denote.Ref.{MutBor}
 use Rattle.c_expr_parser.specs.declared.fault.ParseFault.{ParseFault}
@@ -17,6 +17,6 @@ pub record Nests (more : ℕ) (pre : Global → MutBor Cursor → ℕ → Wanted
   pub reads : (alloc : Global) (old new : MutBor Cursor) (wanted : Wanted) (r : Result Found ParseFault) → post alloc old more wanted r new
       → Reads (read more wanted old.now.state) old.now.end r new.now
   pub keeps : (alloc : Global) (old new : MutBor Cursor) (wanted : Wanted) (r : Result Found ParseFault) → post alloc old more wanted r new
-      → Keeps old.now.state new.now.state
+      → OnOk r (Keeps old.now.state new.now.state)
   pub ends : (alloc : Global) (old new : MutBor Cursor) (wanted : Wanted) (r : Result Found ParseFault) → post alloc old more wanted r new
       → new.now.end ≡ old.now.end

@@ -6,11 +6,13 @@ use Rattle.c_tree.specs.declared.declaration.InitialiserItem.{InitialiserItem}
 use Rattle.c_tree.specs.declared.declaration.InitDeclarator.{InitDeclarator}
 use Rattle.c_tree.specs.declared.statement.Else.{Else}
 use Rattle.c_tree.specs.declared.statement.BlockItem.{BlockItem}
+use Rattle.c_tree.specs.declared.unit.External.{External}
 use Rattle.c_grammar.specs.Input.{Parser, ◌>>=◌, sees, many, many_by}
 use Rattle.c_expr_parser.specs.Parts.{more_items}
 use Rattle.c_unit_grammar.specs.Read.Initialisers as initialiser
 use Rattle.c_unit_grammar.specs.Read.Declarations as declaration
 use Rattle.c_unit_grammar.specs.Read.Statements as statement
+use Rattle.c_unit_grammar.specs.Read.Units as unit
 
 module _ (more : ℕ) where
   unfoldable pub initialisers : Parser (List InitialiserItem)
@@ -26,3 +28,7 @@ module _ (more : ℕ) where
   -- each `else` that an `if` can take
   unfoldable pub others : Parser (List Else)
   others = many_by statement.goes_else (λ _. statement.one_else more (statement.within more)) statement.goes_further true
+
+  -- declarations and definitions to the end of the tokens, at least one
+  unfoldable pub externals : Parser (List External)
+  externals = unit.one_external more >>= more_items unit.goes_external (unit.one_external more)

@@ -8,6 +8,7 @@ ghost use Rattle.c_unit_grammar.specs.Read.Units as spec;
 ghost use Rattle.c_unit_parser.specs.Beside.{listed as declared};
 ghost use Rattle.c_unit_parser.specs.Reads.{Reads};
 ghost use Rattle.c_unit_parser.specs.Nests.{Nests};
+ghost use Rattle.c_unit_parser.specs.Parts as parts;
 
 use crate::cursor::Cursor;
 use crate::grammar::Grammar;
@@ -136,10 +137,10 @@ impl<F: Fn(Global, &mut Cursor<'_>, u32, Wanted) -> Result<Found, ParseFault>> G
     }
 
     /// Declarations and definitions to the end of the tokens, at least one.
-    #[tactic(auto, using(crate::proofs::Firsts::externals_are))]
+    #[tactic(auto, unfolding(crate::specs::Parts::externals))]
     pub fn externals(&self, input: &mut Cursor<'_>) -> Result<Items<External>, ParseFault>
         requires { Nests self.now.more (F.pre self.now.inside) (F.post self.now.inside) }
-        ensures reads { Reads (spec.externals self.now.more input.old.state) input.old.end result input.new }
+        ensures reads { Reads (parts.externals self.now.more input.old.state) input.old.end result input.new }
         ensures keeps { OnOk result (Keeps input.old.state input.new.state) }
         ensures ends { input.new.end ≡ input.old.end }
     {

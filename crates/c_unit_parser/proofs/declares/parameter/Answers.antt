@@ -12,8 +12,8 @@ use Rattle.c_unit_parser.proofs.declares.parameter.Goals as goal
 pub returns-in-Some : goal.returns-in-Some
 returns-in-Some c = on_ok_weaker c.declare.result
     (λ behind. puts_itself (level.parameter_level c.args.tree.now) (names_of c.have_typedef.result (Some c.in-Some.name.now))
-        (parameter_told c.args.tree.now c.as_slice.result.now c.as_slice.ensures c.have_typedef.result (c.have_typedef.ensures ∙ ap have_typedef c.as_slice-in-Some.ensures) (Some c.in-Some.name.now) c.in-Some.ensures)
-        (puts_then c.in_ok-specifiers.ensures c.in_ok-declarator.ensures) behind)
+    (parameter_told c.args.tree.now c.as_slice.result.now c.as_slice.ensures c.have_typedef.result (c.have_typedef.ensures ∙ ap have_typedef c.as_slice-in-Some.ensures) (Some c.in-Some.name.now) c.in-Some.ensures)
+    (puts_then c.in_ok-specifiers.ensures c.in_ok-declarator.ensures) behind)
     c.declare.ensures
 
 pub returns-in-None : goal.returns-in-None
