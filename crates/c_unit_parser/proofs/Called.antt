@@ -12,7 +12,6 @@ use Rattle.c_expr_parser.specs.declared.fault.ParseFault.TheVariants as fault
 use Rattle.c_expr_parser.specs.Reads.{Keeps}
 use Rattle.c_expr_parser.specs.Calls as call
 use Rattle.c_unit_parser.specs.Reads.{answer}
-use Rattle.c_unit_parser.proofs.Marks.{kept_behind}
 
 -- the place behind the tree is one of the tokens, and what is left there
 pub record Behind (tokens : Tokens) (behind : ℕ) (rest : Tokens) : Type 0 where
@@ -28,14 +27,10 @@ behind_front tokens front rest at fits whole = record {
 abbrev read_of : {A : Type 0} → A → Names → Tokens → Outcome A
 read_of a names left = Ok (a, (names, left))
 
-abbrev given_up : {A : Type 0} → ParseFault → Result (A × State) ParseFault
-given_up e = Err e
-
 -- what a call reads: the tree, with the place behind it
 pub record Went {A : Type 0} (outcome : Outcome A) (old new : Names) (tokens : Tokens) (tree : A) (behind : ℕ) : Type 0 where
   pub reads : outcome ≡ Ok (tree, (new, drop behind tokens))
   pub within : behind ≤ length tokens
-  pub keeps : (i j : State) → i.0 ≡ old → j.0 ≡ new → Keeps i j
 
 module _ {A : Type 0} (t : Trees A) (reads : ℕ → Parser A) (at_front : (more : ℕ) → OkAtFront t more (reads more)) (old new : Names) (tokens : Tokens) (at depth more : ℕ) (fits : at ≤ length tokens) (small : more ≤ call.deepest) (is : depth ≡ call.deepest - more) where
   pub went : (tree : A) (behind : ℕ) → call.IsRead t old (drop at tokens) depth tree → behind ≡ at + length (t.spelling tree) → new ≡ old ++ t.declares old tree → Went (reads more (old, drop at tokens)) old new tokens tree behind
@@ -46,12 +41,4 @@ module _ {A : Type 0} (t : Trees A) (reads : ℕ → Parser A) (at_front : (more
         reads = (at_front more).comes old (drop at tokens) r.rest tree r.levelled (omega arith) r.front
             ∙ ap (λ (l : Names). read_of tree l r.rest) (sym names) ∙ ap (λ (l : Tokens). read_of tree new l) (sym b.left ∙ ap (λ (n : ℕ). drop n tokens) (sym place));
         within = let w = b.within in omega (arith, w, place);
-        keeps = λ i j from to. kept_behind i j (t.declares old tree) (to ∙ names ∙ ap (λ (l : Names). l ++ t.declares old tree) (sym from));
       }
-
-  pub refused : (end : Pos) (e : ParseFault) → (e ≢ fault.Memory → call.StopsWith (reads (call.deepest - depth)) old (drop at tokens) end e) → e ≢ fault.Memory → answer end (reads more (old, drop at tokens)) ≡ Err e
-  refused end e stops not_memory =
-      let s = stops not_memory in
-      let limit : call.deepest - depth ≡ more = omega arith in
-      let same : reads more (old, drop at tokens) ≡ Err (s.reason, s.left) = sym (ap (λ (n : ℕ). reads n (old, drop at tokens)) limit) ∙ s.stops in
-      ap (λ (r : Outcome A). answer end r) same ∙ ap (λ (f : ParseFault). given_up {A = A} f) (sym s.is)

@@ -29,12 +29,12 @@ and_pure (Err e) = refl
 
 module _ {X Y : Type 0} (goes : State → Bool) (item : Parser X) (f : List X → Parser Y) where
   -- the first item is there
-  pub behind_one : (x : X) (i : State) → and_then (many goes item i) (λ xs. f (x ∷ xs)) ≡ and_then (more_items goes item x i) f
+  behind_one : (x : X) (i : State) → and_then (many goes item i) (λ xs. f (x ∷ xs)) ≡ and_then (more_items goes item x i) f
   behind_one x i =
       in_order (loop {S = Unit {0}} (λ _. goes) (λ _. item) (λ _ _. tt) (length i.1) tt [] i) x f ∙ ap (λ (r : Outcome (List X)). and_then r f) (sym (first_before {S = Unit {0}} (λ _. goes) (λ _. item) (λ _ _. tt) (length i.1) tt x [] i))
 
   -- the first item is read
-  pub list_read : (r : Outcome X) → and_then r (λ x j. and_then (many goes item j) (λ xs. f (x ∷ xs))) ≡ and_then (and_then r (λ x. more_items goes item x)) f
+  list_read : (r : Outcome X) → and_then r (λ x j. and_then (many goes item j) (λ xs. f (x ∷ xs))) ≡ and_then (and_then r (λ x. more_items goes item x)) f
   list_read (Ok q) = behind_one q.0 q.1
   list_read (Err e) = refl
 

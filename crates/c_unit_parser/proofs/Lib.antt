@@ -1,6 +1,5 @@
 pub mod Places
 pub mod Answers
-pub mod Marks
 pub mod Turns
 pub mod Firsts
 pub mod Called

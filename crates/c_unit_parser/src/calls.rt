@@ -11,14 +11,13 @@ use std::alloc::Global;
 
 /// Reads all the tokens of a source as a translation unit (C11 6.9).
 ///
-/// Ok comes exactly where the tokens are those of a unit that the grammar has and that nests at most 256 deep, and gives
-/// that unit, which is the only one.
+/// Ok comes exactly where the tokens are those of a unit that the grammar has and that nests at most 256 deep, unless
+/// memory is wanting, and gives that unit, the only one of these tokens.
 ///
 /// # Errors
 ///
-/// `Syntax` at the first token such that the tokens before it begin a unit and those up to it do not, or at the end
-/// place; `Nest` at the first token that is nested more than 256 deep, where no `Syntax` stands at it or before;
-/// `Memory` where memory is wanting.
+/// `Syntax` at the token, or the end, where the grammar does not go on; `Nest` at the token that would be nested more than
+/// 256 deep; `Memory` where memory is wanting.
 pub fn parse(alloc: Global, tokens: &Tokens) -> Result<Unit, ParseFault>
     ensures levelled { call.Levelled result }
     ensures spelt { call.Spelt tokens.now.list tokens.now.end result }
