@@ -1,11 +1,11 @@
 -- The outcome of a parser with places, from that of its first part.
 use Rattle.std.specs.Prelude.{◌≡◌, Ok, Err, refl}
 use Rattle.c_tree.specs.declared.token.Pos.{Pos}
-use Rattle.c_grammar.specs.Input.{Reason, Tokens, Fault, State, Outcome, Parser, and_then}
+use Rattle.c_grammar.specs.Input.{Reason, Tokens, Outcome, Parser, and_then}
 use Rattle.c_expr_parser.specs.declared.fault.ParseFault.{ParseFault}
 use Rattle.c_expr_parser.specs.Reads.{next_place}
 use Rattle.c_expr_parser.specs.Calls.{place_or, fault_at}
-use Rattle.c_unit_parser.specs.Reads.{answer, placed}
+use Rattle.c_unit_parser.specs.Reads.{answer}
 
 -- what stops in its first part stops there
 pub stops_first : {A B : Type 0} (end : Pos) (r : Outcome A) (f : A → Parser B) (e : ParseFault) → answer end r ≡ Err e → answer end (and_then r f) ≡ Err e

@@ -1,17 +1,12 @@
 -- What a call of the crate below reads, from what it ensures.
-use Rattle.std.specs.Prelude.{◌≡◌, ◌≢◌, ℕ, ◌+◌, ◌-◌, ◌≤◌, List, ◌++◌, length, drop, Result, Ok, Err, refl}
-use Rattle.std.proofs.Common.{ap, sym, ◌∙◌, subst, arith, length-append}
+use Rattle.std.specs.Prelude.{◌≡◌, ℕ, ◌+◌, ◌-◌, ◌≤◌, ◌++◌, length, drop, Ok}
+use Rattle.std.proofs.Common.{ap, sym, ◌∙◌, arith, length-append}
 use Rattle.std.proofs.Math.Seq.{drop-append_seam}
 use Rattle.std.proofs.lemmas.List.{drop-drop, length-drop}
-use Rattle.c_tree.specs.declared.token.Pos.{Pos}
 use Rattle.c_tree.specs.Levels.Names.{Names}
-use Rattle.c_grammar.specs.Input.{Tokens, State, Outcome, Parser}
-use Rattle.c_grammar.specs.Fronts.{Trees, IsFront, OkAtFront}
-use Rattle.c_expr_parser.specs.declared.fault.ParseFault.{ParseFault}
-use Rattle.c_expr_parser.specs.declared.fault.ParseFault.TheVariants as fault
-use Rattle.c_expr_parser.specs.Reads.{Keeps}
+use Rattle.c_grammar.specs.Input.{Tokens, Outcome, Parser}
+use Rattle.c_grammar.specs.Fronts.{Trees, OkAtFront}
 use Rattle.c_expr_parser.specs.Calls as call
-use Rattle.c_unit_parser.specs.Reads.{answer}
 
 -- the place behind the tree is one of the tokens, and what is left there
 pub record Behind (tokens : Tokens) (behind : ℕ) (rest : Tokens) : Type 0 where

@@ -1,6 +1,6 @@
 -- What a parameter declares.
 use Rattle.std.specs.Prelude.{◌≡◌, ℕ, Bool, List, ◌++◌, Option, map}
-use Rattle.std.proofs.Common.{ap, sym, ◌∙◌}
+use Rattle.std.proofs.Common.{ap, ◌∙◌}
 use Rattle.c_tree.specs.declared.specifier.Specifier.{Specifier}
 use Rattle.c_tree.specs.declared.declarator.Parameter.{Parameter, out-Parameter}
 use Rattle.c_tree.specs.Levels.Names.{Names, ◌then◌, in_row}

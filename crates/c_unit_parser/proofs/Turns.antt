@@ -1,7 +1,7 @@
 -- A list that is read item by item: an item that is refused.
 use Rattle.std.proofs.Common.{◌≡◌, ℕ, suc, ◌+◌, ◌-◌, ◌<◌, Bool, true, List, [], ◌∷◌, ◌++◌, Err, ap, ◌∙◌}
 use Rattle.c_tree.specs.declared.token.Pos.{Pos}
-use Rattle.c_grammar.specs.Input.{State, Outcome, Parser, and_then, loop}
+use Rattle.c_grammar.specs.Input.{State, Outcome, Parser, loop}
 use Rattle.c_expr_parser.specs.declared.fault.ParseFault.{ParseFault}
 use Rattle.c_expr_parser.specs.Reads.{Keeps}
 use Rattle.c_expr_parser.proofs.Turns.{one_more}

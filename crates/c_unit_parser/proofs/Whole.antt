@@ -1,15 +1,14 @@
 -- From what is read of all the tokens to what `parse` ensures.
-use Rattle.std.specs.Prelude.{◌≡◌, ◌≢◌, List, [], Result, Ok, Err, refl}
+use Rattle.std.specs.Prelude.{◌≡◌, ◌≢◌, List, [], Result, Ok, Err}
 use Rattle.std.proofs.Common.{ap, sym, ◌∙◌}
 use Rattle.c_tree.specs.declared.token.Pos.{Pos}
 use Rattle.c_tree.specs.declared.unit.External.{External}
 use Rattle.c_tree.specs.declared.unit.Unit as tree
-use Rattle.c_tree.specs.Levelled.{IsUnit, IsLevelled, nesting_limit}
+use Rattle.c_tree.specs.Levelled.{nesting_limit}
 use Rattle.c_grammar.specs.Input.{Tokens, State, Fault, Outcome}
 use Rattle.c_expr_parser.specs.declared.fault.ParseFault.{ParseFault}
 use Rattle.c_expr_parser.specs.declared.fault.ParseFault.TheVariants as fault
 use Rattle.c_unit_grammar.specs.Read.Units.{parse, unit_of}
-use Rattle.c_unit_grammar.specs.Sentences.{Spells}
 use Rattle.c_unit_grammar.specs.Laws.Units.{ok_at_units, units_are_unique}
 use Rattle.c_unit_parser.specs.Reads.{answer}
 use Rattle.c_unit_parser.specs.Units as call

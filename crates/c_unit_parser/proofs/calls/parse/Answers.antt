@@ -1,4 +1,4 @@
-use Rattle.std.proofs.Common.{◌≡◌, ◌≢◌, ◌≤◌, [], Ok, Err, arith}
+use Rattle.std.proofs.Common.{◌≡◌, ◌≢◌, [], Ok, Err, arith}
 use Rattle.std.proofs.lemmas.Result.{err_from_is_err_and}
 use Rattle.c_tree.specs.Levelled.{nesting_limit}
 use Rattle.c_expr_parser.specs.declared.fault.ParseFault.TheVariants as fault

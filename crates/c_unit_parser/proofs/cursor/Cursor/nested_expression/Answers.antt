@@ -1,4 +1,4 @@
-use Rattle.std.proofs.Common.{◌≡◌, ◌<◌, arith, rules}
+use Rattle.std.proofs.Common.{arith, rules}
 use Rattle.std.proofs.lemmas.Grind.{common_steps}
 use Rattle.c_unit_parser.proofs.Depth.{no_expression, expression_inside}
 use Rattle.c_unit_parser.proofs.cursor.Cursor.nested_expression.Goals as goal

@@ -1,9 +1,5 @@
 use Rattle.std.proofs.Common.{◌-◌}
-use Rattle.c_tree.specs.declared.token.Punct.TheVariants as p
-use Rattle.c_grammar.specs.Input.{loop, sees}
-use Rattle.c_unit_grammar.specs.Read.Initialisers as initialiser
-use Rattle.c_unit_grammar.specs.Read.Declarations as declaration
-use Rattle.c_unit_grammar.specs.Read.Statements as statement
+use Rattle.c_grammar.specs.Input.{loop}
 use Rattle.c_unit_grammar.specs.Read.Units as unit
 use Rattle.c_unit_parser.specs.Parts as parts
 use Rattle.c_unit_parser.proofs.Turns.{Reading}
