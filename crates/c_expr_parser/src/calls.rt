@@ -24,6 +24,7 @@ pub type Names = ScopeMap<Text, bool>;
 // How deep brackets may be open.
 const DEEPEST: u32 = 256;
 
+// Why a call stopped at this place, or at the end where there is none.
 fn fault_at(stop: Stop, place: Option<Pos>, end: Pos) -> ParseFault
     ensures { result ≡ call.fault_of stop (call.place_or place end) }
 {

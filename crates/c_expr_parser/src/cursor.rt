@@ -43,6 +43,7 @@ pub fn copied(alloc: Global, text: &Text) -> Result<Text, Memory>
 }
 
 impl<'a> Cursor<'a> {
+    /// A cursor before the first of these tokens.
     pub fn new(names: ScopeMap<Text, bool>, rest: &'a [Token]) -> Cursor<'a>
         ensures { result ≡ (names, rest.now) }
     {

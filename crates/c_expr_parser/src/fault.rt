@@ -1,3 +1,5 @@
+//! Why a call, or a production, stopped.
+
 use c_tree::Pos;
 use std::alloc::{AllocError, AllocFailed};
 use thiserror::Error;

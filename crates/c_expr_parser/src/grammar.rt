@@ -23,6 +23,7 @@ pub struct Grammar<F> {
 }
 
 impl<F: Fn(Global, &mut Cursor<'_>, usize, Wanted) -> Result<Found, Stop>> Grammar<F> {
+    /// An expression of this production inside a bracket.
     pub fn expr(&self, input: &mut Cursor<'_>, within: Within) -> Result<Expr, Stop>
         requires { Nests self.now.more (F.pre self.now.inside) (F.post self.now.inside) }
         ensures reads { Reads ((inside self.now.more).expr (within_number within) input.old) result input.new }
@@ -34,6 +35,7 @@ impl<F: Fn(Global, &mut Cursor<'_>, usize, Wanted) -> Result<Found, Stop>> Gramm
         }
     }
 
+    /// Specifiers inside a bracket.
     pub fn nested_specifiers(
         &self,
         input: &mut Cursor<'_>,
@@ -54,6 +56,7 @@ impl<F: Fn(Global, &mut Cursor<'_>, usize, Wanted) -> Result<Found, Stop>> Gramm
         }
     }
 
+    /// A declarator inside a bracket.
     pub fn nested_declarator(
         &self,
         input: &mut Cursor<'_>,

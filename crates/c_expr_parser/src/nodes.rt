@@ -14,6 +14,7 @@ use c_tree::{
 use std::alloc::{AllocError, Global};
 use word_ops::{Boxed, Items, Text};
 
+/// A postfix expression (C11 6.5.2), or its operand where there is no suffix.
 pub fn with_suffixes(alloc: Global, first: Expr, rest: Items<Suffix>) -> Result<Expr, AllocError>
     ensures { IfOk result (λ e. e ≡ spec.with_suffixes first rest) }
 {
@@ -23,6 +24,7 @@ pub fn with_suffixes(alloc: Global, first: Expr, rest: Items<Suffix>) -> Result<
     Ok(Expr::Postfix(Boxed::new(alloc, first)?, rest))
 }
 
+/// An operand with the prefixes before it (C11 6.5.3, 6.5.4), or alone where there is none.
 pub fn with_run(alloc: Global, run: Items<Prefix>, operand: Expr) -> Result<Expr, AllocError>
     ensures { IfOk result (λ e. e ≡ spec.with_run run operand) }
 {
@@ -32,6 +34,7 @@ pub fn with_run(alloc: Global, run: Items<Prefix>, operand: Expr) -> Result<Expr
     Ok(Expr::Prefixed(run, Boxed::new(alloc, operand)?))
 }
 
+/// Operators of a level with their operands (C11 6.5.5 to 6.5.14), or the first operand where there is no operator.
 pub fn with_operands(
     alloc: Global,
     level: Level,
@@ -46,6 +49,7 @@ pub fn with_operands(
     Ok(Expr::Binary(level, Boxed::new(alloc, first)?, rest))
 }
 
+/// A conditional expression (C11 6.5.15), or its first operand where there is no `?`.
 pub fn with_branches(alloc: Global, first: Expr, rest: Items<Branch>) -> Result<Expr, AllocError>
     ensures { IfOk result (λ e. e ≡ spec.with_branches first rest) }
 {
@@ -55,6 +59,7 @@ pub fn with_branches(alloc: Global, first: Expr, rest: Items<Branch>) -> Result<
     Ok(Expr::Conditional(Boxed::new(alloc, first)?, rest))
 }
 
+/// An assignment (C11 6.5.16), or its first operand where nothing is assigned.
 pub fn with_targets(alloc: Global, first: Expr, rest: Items<Next>) -> Result<Expr, AllocError>
     ensures { IfOk result (λ e. e ≡ spec.with_targets first rest) }
 {
@@ -64,6 +69,7 @@ pub fn with_targets(alloc: Global, first: Expr, rest: Items<Next>) -> Result<Exp
     Ok(Expr::Assign(Boxed::new(alloc, first)?, rest))
 }
 
+/// Operands with commas between (C11 6.5.17), or the first where there is no comma.
 pub fn with_commas(alloc: Global, first: Expr, rest: Items<Next>) -> Result<Expr, AllocError>
     ensures { IfOk result (λ e. e ≡ spec.with_commas first rest) }
 {

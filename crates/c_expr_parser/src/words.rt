@@ -17,6 +17,7 @@ pub fn is_same(one: Punct, other: Punct) -> bool
     one as u8 == other as u8
 }
 
+/// Whether the token is this punctuator.
 pub fn is_mark(kind: Option<&TokenKind>, op: Punct) -> bool
     ensures { result ≡ input.is_mark op (option_copied kind.entry) }
 {
@@ -26,42 +27,49 @@ pub fn is_mark(kind: Option<&TokenKind>, op: Punct) -> bool
     }
 }
 
+/// Whether the token is a name.
 pub fn is_name(kind: Option<&TokenKind>) -> bool
     ensures { result ≡ input.is_name (option_copied kind.entry) }
 {
     matches!(kind, Some(TokenKind::Name(_)))
 }
 
+/// Whether the token is a string literal.
 pub fn is_bytes(kind: Option<&TokenKind>) -> bool
     ensures { result ≡ input.is_bytes (option_copied kind.entry) }
 {
     matches!(kind, Some(TokenKind::Bytes(_)))
 }
 
+/// Whether the token is `sizeof`.
 pub fn is_sizeof(kind: Option<&TokenKind>) -> bool
     ensures { result ≡ inner.is_sizeof (option_copied kind.entry) }
 {
     matches!(kind, Some(TokenKind::Keyword(Keyword::Sizeof)))
 }
 
+/// Whether the token is `const`.
 pub fn is_const(kind: Option<&TokenKind>) -> bool
     ensures { result ≡ inner.is_const (option_copied kind.entry) }
 {
     matches!(kind, Some(TokenKind::Keyword(Keyword::Const)))
 }
 
+/// Whether the token is `struct`.
 pub fn is_struct(kind: Option<&TokenKind>) -> bool
     ensures { result ≡ inner.is_struct (option_copied kind.entry) }
 {
     matches!(kind, Some(TokenKind::Keyword(Keyword::Struct)))
 }
 
+/// Whether the token is `enum`.
 pub fn is_enum(kind: Option<&TokenKind>) -> bool
     ensures { result ≡ inner.is_enum (option_copied kind.entry) }
 {
     matches!(kind, Some(TokenKind::Keyword(Keyword::Enum)))
 }
 
+/// Whether the token is `void`.
 pub fn is_void(kind: Option<&TokenKind>) -> bool
     ensures { result ≡ inner.is_void (option_copied kind.entry) }
 {
@@ -85,6 +93,7 @@ pub fn is_prefix(op: Punct) -> bool
     }
 }
 
+/// Whether the token is a punctuator that is a prefix.
 pub fn begins_mark(kind: Option<&TokenKind>) -> bool
     ensures { result ≡ expressions.begins_mark (option_copied kind.entry) }
 {

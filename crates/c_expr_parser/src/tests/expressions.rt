@@ -66,6 +66,7 @@ fn conditions_and_assignments(rt: HostRuntime) -> Result<(), Fail> {
         ("( a + b ) = c", "< ( < a + b > ) = c > to 7"),
         ("x ? y ;", "Syntax 1:4"),
         ("x ? y", "Syntax 2:1"),
+        ("a & b == c", "< a & < b == c > > to 5"),
         ("a = ;", "Syntax 1:3"),
         ("a +", "Syntax 2:1"),
         ("f ( a ,", "Syntax 2:1"),

@@ -52,15 +52,20 @@ fn a_parameter_hides_a_typedef_name_up_to_the_end_of_its_list(rt: HostRuntime) -
 }
 
 #[test]
-fn an_enumerator_hides_a_typedef_name(rt: HostRuntime) -> Result<(), Fail> {
+fn an_enumerator_hides_a_typedef_name_in_its_scope(rt: HostRuntime) -> Result<(), Fail> {
     let alloc = rt.alloc();
     let mut names = with_t(alloc)?;
+    let scope = names.mark();
     let source = "enum { A = sizeof ( T ) , T , B = sizeof ( T ) }";
     let answer = read_specifiers(alloc, source, &mut names, true)?;
     let wanted = "enum { A = sizeof ( T < > ) , T , B = < sizeof ( T ) > } to 18";
     assert_eq!(rt; answer.as_str(), wanted);
     assert_eq!(rt; names.mark(), 4);
-    expect_cast(&rt, alloc, &mut names, DIFFERENCE)
+    expect_cast(&rt, alloc, &mut names, DIFFERENCE)?;
+    if scope <= names.mark() {
+        names.leave(scope);
+    }
+    expect_cast(&rt, alloc, &mut names, CAST)
 }
 
 #[test]
