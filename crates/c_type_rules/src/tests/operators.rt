@@ -6,7 +6,7 @@ use crate::{binary, chosen_by, common_type, contained, index, promoted_type};
 use c_layout::Tags;
 use c_tree::typed::{Arithmetic, Base, Primary, Relation, Sign, Stride};
 use c_tree::{FaultKind, Punct};
-use c_typing::{Plan, Row};
+use c_typing::{Operand, Plan, Row};
 use std::alloc::Global;
 use std::process::Abort;
 use std::test::Fail;
@@ -148,96 +148,144 @@ fn shifts_have_the_type_of_the_left(rt: HostRuntime) -> Result<(), Fail> {
     Ok(())
 }
 
-fn by(element: u32, sign: Sign) -> Stride {
-    Stride { element, sign }
-}
+/// A pointer to arrays of five characters.
+const TO_ROW: Type = (Base::Char, false, &[Made::Array(5), Made::Pointer]);
+
+const UNSIGNED: Type = (Base::Unsigned, false, &[]);
+
+const SIGNED_BY_4: Stride = Stride {
+    element: 4,
+    sign: Sign::Signed,
+};
+
+const UNSIGNED_BY_5: Stride = Stride {
+    element: 5,
+    sign: Sign::Unsigned,
+};
+
+/// Operators with a pointer among their operands.
+static MOVED: [(Punct, Type, Type, Planned); 7] = [
+    (
+        Punct::Plus,
+        INT_POINTER,
+        (Base::Char, true, &[]),
+        (
+            INT_POINTER,
+            INT,
+            Arithmetic::PointerPlus(SIGNED_BY_4),
+            INT_POINTER,
+        ),
+    ),
+    (
+        Punct::Plus,
+        UNSIGNED,
+        TO_ROW,
+        (
+            UNSIGNED,
+            TO_ROW,
+            Arithmetic::PlusPointer(UNSIGNED_BY_5),
+            TO_ROW,
+        ),
+    ),
+    (
+        Punct::Minus,
+        TO_ROW,
+        UNSIGNED,
+        (
+            TO_ROW,
+            UNSIGNED,
+            Arithmetic::PointerMinus(UNSIGNED_BY_5),
+            TO_ROW,
+        ),
+    ),
+    (
+        Punct::Minus,
+        INT_POINTER,
+        TO_CONST_INT,
+        (INT_POINTER, TO_CONST_INT, Arithmetic::Difference(4), INT),
+    ),
+    (
+        Punct::LessEqual,
+        INT_POINTER,
+        TO_CONST_INT,
+        (
+            INT_POINTER,
+            INT_POINTER,
+            Arithmetic::ComparePointers(Relation::AtMost),
+            INT,
+        ),
+    ),
+    (
+        Punct::NotEqual,
+        TO_CONST_INT,
+        INT_POINTER,
+        (
+            TO_CONST_INT,
+            TO_CONST_INT,
+            Arithmetic::ComparePointers(Relation::NotEqual),
+            INT,
+        ),
+    ),
+    (
+        Punct::Equal,
+        INT_POINTER,
+        VOID_POINTER,
+        (
+            INT_POINTER,
+            VOID_POINTER,
+            Arithmetic::ComparePointers(Relation::Equal),
+            INT,
+        ),
+    ),
+];
 
 #[test]
-fn pointers_move_by_their_elements(rt: HostRuntime) -> Result<(), Fail> {
+fn pointers_are_moved_and_compared(rt: HostRuntime) -> Result<(), Fail> {
+    for (operator, left, right, plan) in &MOVED {
+        assert_planned(&rt, rt.alloc(), *operator, (left, right), plan)?;
+    }
+    Ok(())
+}
+
+/// An index and a pointer, as `2[a]` has them.
+#[test]
+fn an_index_may_stand_first(rt: HostRuntime) -> Result<(), Fail> {
     let alloc = rt.alloc();
-    let unsigned: Type = (Base::Unsigned, false, &[]);
-    let rows: Type = (Base::Char, false, &[Made::Array(5), Made::Pointer]);
-    let plan: Planned = (
-        INT_POINTER,
-        INT,
-        Arithmetic::PointerPlus(by(4, Sign::Signed)),
-        INT_POINTER,
-    );
-    assert_planned(
-        &rt,
-        alloc,
-        Punct::Plus,
-        (&INT_POINTER, &(Base::Char, false, &[])),
-        &plan,
-    )?;
-    let plan: Planned = (
-        unsigned,
-        rows,
-        Arithmetic::PlusPointer(by(5, Sign::Unsigned)),
-        rows,
-    );
-    assert_planned(&rt, alloc, Punct::Plus, (&unsigned, &rows), &plan)?;
-    let plan: Planned = (
-        rows,
-        unsigned,
-        Arithmetic::PointerMinus(by(5, Sign::Unsigned)),
-        rows,
-    );
-    assert_planned(&rt, alloc, Punct::Minus, (&rows, &unsigned), &plan)?;
-    let plan: Planned = (INT_POINTER, TO_CONST_INT, Arithmetic::Difference(4), INT);
-    assert_planned(
-        &rt,
-        alloc,
-        Punct::Minus,
-        (&INT_POINTER, &TO_CONST_INT),
-        &plan,
-    )?;
     let (pointer, number) = (some_value(alloc, &TO_CONST_INT)?, some_value(alloc, &INT)?);
     let found = index(alloc, &Tags::new(alloc), &number, &pointer)?;
-    let plan: Planned = (
+    let plan = (
         INT,
         TO_CONST_INT,
-        Arithmetic::PlusPointer(by(4, Sign::Signed)),
+        Arithmetic::PlusPointer(SIGNED_BY_4),
         TO_CONST_INT,
     );
     assert_same(&rt, alloc, &found, &planned(alloc, &plan)?)
 }
 
-#[test]
-fn pointers_are_compared(rt: HostRuntime) -> Result<(), Fail> {
-    let alloc = rt.alloc();
-    for (operator, relation) in &RELATIONS {
-        let comparison = Arithmetic::ComparePointers(*relation);
-        let plan: Planned = (INT_POINTER, INT_POINTER, comparison, INT);
-        assert_planned(&rt, alloc, *operator, (&INT_POINTER, &TO_CONST_INT), &plan)?;
-    }
+/// Asserts that `==` compares a pointer and a null pointer constant, in either order, as two pointers.
+fn assert_compared_with_null<R: Abort>(
+    rt: &R,
+    alloc: Global,
+    left: &Operand,
+    right: &Operand,
+) -> Result<(), Fail> {
     let comparison = Arithmetic::ComparePointers(Relation::Equal);
-    let plan: Planned = (INT_POINTER, VOID_POINTER, comparison, INT);
-    assert_planned(
-        &rt,
-        alloc,
-        Punct::Equal,
-        (&INT_POINTER, &VOID_POINTER),
-        &plan,
-    )?;
-    let (pointer, zero) = (
-        some_value(alloc, &INT_POINTER)?,
-        constant_value(alloc, &(Base::Char, false, &[]), Primary::Number(0))?,
-    );
-    let both = planned(alloc, &(INT_POINTER, INT_POINTER, comparison, INT))?;
-    let tags = Tags::new(alloc);
+    let found = binary(alloc, &Tags::new(alloc), Punct::Equal, left, right)?;
     assert_same(
-        &rt,
+        rt,
         alloc,
-        &binary(alloc, &tags, Punct::Equal, &pointer, &zero)?,
-        &both,
-    )?;
-    assert_same(
-        &rt,
-        alloc,
-        &binary(alloc, &tags, Punct::Equal, &zero, &pointer)?,
-        &both,
+        &found,
+        &planned(alloc, &(INT_POINTER, INT_POINTER, comparison, INT))?,
     )
+}
+
+#[test]
+fn pointers_are_compared_with_null(rt: HostRuntime) -> Result<(), Fail> {
+    let alloc = rt.alloc();
+    let pointer = some_value(alloc, &INT_POINTER)?;
+    let zero = constant_value(alloc, &(Base::Char, false, &[]), Primary::Number(0))?;
+    assert_compared_with_null(&rt, alloc, &pointer, &zero)?;
+    assert_compared_with_null(&rt, alloc, &zero, &pointer)
 }
 
 /// Operands that an operator does not take.
@@ -278,18 +326,25 @@ static REFUSED: [(Punct, Type, Type, FaultKind); 14] = [
     ),
 ];
 
+fn assert_refused<R: Abort>(
+    rt: &R,
+    alloc: Global,
+    operator: Punct,
+    operands: (&Type, &Type),
+    fault: FaultKind,
+) -> Result<(), Fail> {
+    let (left, right) = operands;
+    let (left, right) = (some_value(alloc, left)?, some_value(alloc, right)?);
+    let found = binary(alloc, &Tags::new(alloc), operator, &left, &right)?;
+    assert_same(rt, alloc, &found, &Row::Wrong(fault))
+}
+
 #[test]
 fn other_operands_are_refused(rt: HostRuntime) -> Result<(), Fail> {
-    let alloc = rt.alloc();
-    let tags = Tags::new(alloc);
     for (operator, left, right, fault) in &REFUSED {
-        let (left, right) = (some_value(alloc, left)?, some_value(alloc, right)?);
-        let found = binary(alloc, &tags, *operator, &left, &right)?;
-        assert_same(&rt, alloc, &found, &Row::Wrong(*fault))?;
+        assert_refused(&rt, rt.alloc(), *operator, (left, right), *fault)?;
     }
-    let number = some_value(alloc, &INT)?;
-    let found = index(alloc, &tags, &number, &number)?;
-    assert_same(&rt, alloc, &found, &Row::Wrong(FaultKind::Mismatch))
+    Ok(())
 }
 
 /// Two operands of `? :`, each with whether it is a null pointer constant, and the type of the whole.
@@ -318,17 +373,29 @@ static CHOSEN: [(Type, bool, Type, bool, Option<Type>); 10] = [
     (VOID, false, INT, false, None),
 ];
 
+fn assert_chosen<R: Abort>(
+    rt: &R,
+    alloc: Global,
+    left: (&Type, bool),
+    right: (&Type, bool),
+    whole: &Option<Type>,
+) -> Result<(), Fail> {
+    let (one, other) = (typed(alloc, left.0)?, typed(alloc, right.0)?);
+    let found = chosen_by(alloc, &one, left.1, &other, right.1)?;
+    match whole {
+        Some(whole) => assert_same(rt, alloc, &found, &Some(typed(alloc, whole)?)),
+        None => {
+            assert!(rt; found.is_none());
+            Ok(())
+        }
+    }
+}
+
 #[test]
 fn chosen_operands_have_one_type(rt: HostRuntime) -> Result<(), Fail> {
-    let alloc = rt.alloc();
     for (left, left_is_null, right, right_is_null, whole) in &CHOSEN {
-        let (left, right) = (typed(alloc, left)?, typed(alloc, right)?);
-        let found = chosen_by(alloc, &left, *left_is_null, &right, *right_is_null)?;
-        let wanted = match whole {
-            Some(whole) => Some(typed(alloc, whole)?),
-            None => None,
-        };
-        assert_same(&rt, alloc, &found, &wanted)?;
+        let (left, right) = ((left, *left_is_null), (right, *right_is_null));
+        assert_chosen(&rt, rt.alloc(), left, right, whole)?;
     }
     Ok(())
 }
@@ -351,20 +418,22 @@ static CONTAINED: [(Punct, Option<Punct>); 14] = [
 ];
 
 #[test]
-fn assignments_contain_operators(rt: HostRuntime) -> Result<(), Fail> {
-    let alloc = rt.alloc();
+fn assignments_contain_operators(rt: HostRuntime) {
     for (operator, inner) in &CONTAINED {
         assert_eq!(rt; contained(*operator), *inner, "{operator:?}");
     }
-    let (left, right) = (
-        typed(alloc, &(Base::UnsignedChar, true, &[]))?,
-        typed(alloc, &(Base::Unsigned, false, &[]))?,
-    );
+}
+
+#[test]
+fn integer_types_are_promoted_and_balanced(rt: HostRuntime) -> Result<(), Fail> {
+    let alloc = rt.alloc();
+    let byte = typed(alloc, &(Base::UnsignedChar, true, &[]))?;
+    let word = typed(alloc, &UNSIGNED)?;
     assert_same(
         &rt,
         alloc,
-        &promoted_type(alloc, &left),
+        &promoted_type(alloc, &byte),
         &typed(alloc, &INT)?,
     )?;
-    assert_same(&rt, alloc, &common_type(alloc, &left, &right), &right)
+    assert_same(&rt, alloc, &common_type(alloc, &byte, &word), &word)
 }
