@@ -19,6 +19,8 @@ mod operators;
 mod pointers;
 mod qualifiers;
 mod shapes;
+#[cfg(test)]
+mod tests;
 mod values;
 
 pub use assignable::is_assignable;
