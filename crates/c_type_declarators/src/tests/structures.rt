@@ -1,129 +1,136 @@
-use super::fixture::{Outside, at, expect_faults, name};
+use super::fixture::{Outside, at, expect_faults, expect_type, name};
 use crate::{enum_tag_row, member_named, members_row, struct_begun, struct_tag_row};
 use c_layout::size;
-use c_tree::FaultKind;
-use c_tree::typed::Base;
+use c_tree::typed::{Base, CType};
+use c_tree::{FaultKind, Identifier};
 use c_type_rules::plain;
-use c_type_walk::{Around, Found};
-use c_typing::Tag;
+use c_type_walk::Found;
 use std::alloc::Global;
 use std::test::Fail;
 use word_ops::{Items, Memory};
 
+/// A member of this letter and type at this column.
+fn member(
+    alloc: Global,
+    found: &mut Found,
+    column: u32,
+    letter: u8,
+    base: Option<Base>,
+) -> Result<Items<(Identifier, Option<CType>)>, Memory> {
+    let outside = Outside::new(alloc);
+    let name = name(alloc, column, &[letter])?;
+    let ctype = base.map(|base| plain(alloc, base));
+    let given = member_named(alloc, found, &outside.around(0), Some(&name), ctype)?;
+    given.ok_or(Memory)
+}
+
+/// The size of a structure without a tag at 1, of a member at 10 and one at 11.
+fn size_of_two(
+    alloc: Global,
+    found: &mut Found,
+    first: (u8, Option<Base>),
+    second: (u8, Option<Base>),
+) -> Result<Option<u64>, Memory> {
+    let outside = Outside::new(alloc);
+    let around = outside.around(0);
+    let number = struct_begun(alloc, found, &around, None)?.ok_or(Memory)?;
+    let mut members = member(alloc, found, 10, first.0, first.1)?;
+    members.append(member(alloc, found, 11, second.0, second.1)?)?;
+    let made = members_row(alloc, found, &around, at(1), number, members.as_slice())?;
+    Ok(made.and_then(|ctype| size(&ctype, &found.state.structs)))
+}
+
 #[test]
 fn structures_get_their_members(rt: HostRuntime) -> Result<(), Fail> {
     let alloc = rt.alloc();
-    let outside = Outside::new(alloc);
-    let around = outside.around();
     let mut found = Found::new(alloc);
-    let tag = name(alloc, 8, b"S")?;
-    let number = struct_begun(alloc, &mut found, &around, Some(&tag))?.expect(&rt, "a number");
-    // its size is not known in its own list
-    let own = name(alloc, 20, b"s")?;
-    let itself = Some(plain(alloc, Base::Struct(number)));
-    assert!(rt; member_named(alloc, &mut found, &around, Some(&own), itself)?.is_some());
-    expect_faults(&rt, &found, &[(FaultKind::Incomplete, 20)]);
-    let mut members = Items::new(alloc);
-    let c = name(alloc, 10, b"c")?;
-    let char = Some(plain(alloc, Base::Char));
-    let one = member_named(alloc, &mut found, &around, Some(&c), char)?.expect(&rt, "a member");
-    members.append(one)?;
-    let n = name(alloc, 11, b"n")?;
-    let int = Some(plain(alloc, Base::Int));
-    let one = member_named(alloc, &mut found, &around, Some(&n), int)?.expect(&rt, "a member");
-    members.append(one)?;
-    let none = member_named(alloc, &mut found, &around, None, None)?.expect(&rt, "no member");
-    members.append(none)?;
-    let list = members.as_slice();
-    let made = members_row(alloc, &mut found, &around, at(8), number, list)?.expect(&rt, "a type");
-    assert_eq!(rt; size(&made, &found.state.structs), Some(8));
-    expect_faults(&rt, &found, &[(FaultKind::Incomplete, 20)]);
+    let (c, n) = ((b'c', Some(Base::Char)), (b'n', Some(Base::Int)));
+    assert_eq!(rt; size_of_two(alloc, &mut found, c, n)?, Some(8));
+    // of a structure that has its members
+    let s = (b's', Some(Base::Struct(0)));
+    assert_eq!(rt; size_of_two(alloc, &mut found, c, s)?, Some(12));
+    expect_faults(&rt, alloc, &found, &[])?;
+    // of one that has none yet
+    let own = (b't', Some(Base::Struct(2)));
+    assert_eq!(rt; size_of_two(alloc, &mut found, c, own)?, None);
+    expect_faults(&rt, alloc, &found, &[(FaultKind::Incomplete, 11)])?;
     Ok(())
-}
-
-/// A structure of two members.
-fn two_members(
-    alloc: Global,
-    found: &mut Found,
-    around: &Around<'_>,
-    names: [&[u8]; 2],
-    types: [Option<Base>; 2],
-) -> Result<bool, Memory> {
-    let number = struct_begun(alloc, found, around, None)?.unwrap_or(0);
-    let mut members = Items::new(alloc);
-    let first = name(alloc, 10, names[0])?;
-    members.push((first, types[0].map(|base| plain(alloc, base))))?;
-    let second = name(alloc, 11, names[1])?;
-    members.push((second, types[1].map(|base| plain(alloc, base))))?;
-    let made = members_row(alloc, found, around, at(1), number, members.as_slice())?;
-    Ok(made.is_some())
 }
 
 #[test]
 fn members_differ_in_their_names(rt: HostRuntime) -> Result<(), Fail> {
     let alloc = rt.alloc();
-    let outside = Outside::new(alloc);
-    let around = outside.around();
     let mut found = Found::new(alloc);
     let int = Some(Base::Int);
-    assert!(rt; two_members(alloc, &mut found, &around, [b"a", b"b"], [int, int])?);
-    expect_faults(&rt, &found, &[]);
     // nothing more is asked where a member has a fault
-    assert!(rt; !two_members(alloc, &mut found, &around, [b"a", b"b"], [int, None])?);
-    expect_faults(&rt, &found, &[]);
-    assert!(rt; !two_members(alloc, &mut found, &around, [b"a", b"a"], [int, None])?);
-    expect_faults(&rt, &found, &[(FaultKind::Redeclared, 11)]);
+    assert_eq!(rt;
+        size_of_two(alloc, &mut found, (b'a', int), (b'b', None))?,
+        None
+    );
+    expect_faults(&rt, alloc, &found, &[])?;
+    assert_eq!(rt;
+        size_of_two(alloc, &mut found, (b'a', int), (b'a', None))?,
+        None
+    );
+    expect_faults(&rt, alloc, &found, &[(FaultKind::Redeclared, 11)])?;
     Ok(())
+}
+
+/// The type that `struct S` names in a scope that begins behind so many tags.
+fn tagged(
+    alloc: Global,
+    found: &mut Found,
+    tags_from: usize,
+    alone: bool,
+) -> Result<Option<CType>, Memory> {
+    let outside = Outside::new(alloc);
+    let tag = name(alloc, 8, b"S")?;
+    struct_tag_row(alloc, found, &outside.around(tags_from), &tag, alone)
+}
+
+/// The number of the structure type of which `struct S {` begins the list.
+fn begun(alloc: Global, found: &mut Found) -> Result<Option<u32>, Memory> {
+    let outside = Outside::new(alloc);
+    let tag = name(alloc, 8, b"S")?;
+    struct_begun(alloc, found, &outside.around(0), Some(&tag))
 }
 
 #[test]
 fn tags_are_declared_once_with_a_list(rt: HostRuntime) -> Result<(), Fail> {
     let alloc = rt.alloc();
-    let outside = Outside::new(alloc);
-    let around = outside.around();
     let mut found = Found::new(alloc);
-    let tag = name(alloc, 8, b"S")?;
-    let declared = struct_tag_row(alloc, &mut found, &around, &tag, true)?.expect(&rt, "a type");
-    assert_eq!(rt; declared.base, Base::Struct(0));
-    // the size of a structure without members is not known
-    assert!(rt; size(&declared, &found.state.structs).is_none());
-    assert_eq!(rt;
-        struct_begun(alloc, &mut found, &around, Some(&tag))?,
-        Some(0)
-    );
-    assert_eq!(rt; found.tag(&tag.text), Some(Tag::StructTag(0, true)));
-    let again = struct_tag_row(alloc, &mut found, &around, &tag, false)?.expect(&rt, "a type");
-    assert_eq!(rt; again.base, Base::Struct(0));
-    expect_faults(&rt, &found, &[]);
-    assert_eq!(rt;
-        struct_begun(alloc, &mut found, &around, Some(&tag))?,
-        Some(1)
-    );
-    expect_faults(&rt, &found, &[(FaultKind::Redeclared, 8)]);
+    let made = tagged(alloc, &mut found, 0, true)?;
+    expect_type(&rt, alloc, &made, "Struct(0)")?;
+    assert_eq!(rt; begun(alloc, &mut found)?, Some(0));
+    let made = tagged(alloc, &mut found, 0, false)?;
+    expect_type(&rt, alloc, &made, "Struct(0)")?;
+    expect_faults(&rt, alloc, &found, &[])?;
+    assert_eq!(rt; begun(alloc, &mut found)?, Some(1));
+    expect_faults(&rt, alloc, &found, &[(FaultKind::Redeclared, 8)])?;
     Ok(())
+}
+
+/// The type that `enum` and a tag name.
+fn enumerated(alloc: Global, found: &mut Found, bytes: &[u8]) -> Result<Option<CType>, Memory> {
+    let outside = Outside::new(alloc);
+    let tag = name(alloc, 9, bytes)?;
+    enum_tag_row(alloc, found, &outside.around(0), &tag)
 }
 
 #[test]
 fn tags_of_inner_scopes_hide_others(rt: HostRuntime) -> Result<(), Fail> {
     let alloc = rt.alloc();
-    let outside = Outside::new(alloc);
-    let outer = outside.around();
     let mut found = Found::new(alloc);
-    let tag = name(alloc, 8, b"S")?;
-    assert!(rt; struct_tag_row(alloc, &mut found, &outer, &tag, false)?.is_some());
-    let inner = outer.in_scope(&found);
-    let same = struct_tag_row(alloc, &mut found, &inner, &tag, false)?.expect(&rt, "a type");
-    assert_eq!(rt; same.base, Base::Struct(0));
-    let other = struct_tag_row(alloc, &mut found, &inner, &tag, true)?.expect(&rt, "a type");
-    assert_eq!(rt; other.base, Base::Struct(1));
-    expect_faults(&rt, &found, &[]);
-    assert!(rt; enum_tag_row(alloc, &mut found, &inner, &tag)?.is_none());
-    let unknown = name(alloc, 9, b"E")?;
-    assert!(rt; enum_tag_row(alloc, &mut found, &inner, &unknown)?.is_none());
-    expect_faults(
-        &rt,
-        &found,
-        &[(FaultKind::Redeclared, 8), (FaultKind::Undeclared, 9)],
-    );
+    let made = tagged(alloc, &mut found, 0, false)?;
+    expect_type(&rt, alloc, &made, "Struct(0)")?;
+    let made = tagged(alloc, &mut found, 1, false)?;
+    expect_type(&rt, alloc, &made, "Struct(0)")?;
+    let made = tagged(alloc, &mut found, 1, true)?;
+    expect_type(&rt, alloc, &made, "Struct(1)")?;
+    expect_faults(&rt, alloc, &found, &[])?;
+    assert!(rt; enumerated(alloc, &mut found, b"S")?.is_none());
+    assert!(rt; enumerated(alloc, &mut found, b"E")?.is_none());
+    let list = [(FaultKind::Redeclared, 9), (FaultKind::Undeclared, 9)];
+    expect_faults(&rt, alloc, &found, &list)?;
     Ok(())
 }
