@@ -100,14 +100,14 @@ pub fn lay_out(
     })
 }
 
-/// The bytes of an object of a complete type.
+/// The bytes of an object of a type, 0 where it is incomplete.
 fn bytes(t: &CType, tags: &Tags) -> u64
     ensures { result ≡ sizes.capped (spec.bytes_of tags.now t.now) }
 {
     size(t, tags).unwrap_or(0)
 }
 
-/// The alignment of an object of a complete type.
+/// The alignment of an object of a type, 1 where it is incomplete.
 fn strictness(t: &CType, tags: &Tags) -> u64
     ensures strictness { result ≡ spec.strictness_of tags.now t.now }
     ensures aligned { is_alignment result ≡ true }
