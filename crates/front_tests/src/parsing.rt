@@ -1,5 +1,5 @@
 use c_lexer::lex;
-use c_tree::spell;
+use c_tree::{External, spell, spell_definition};
 use c_unit_parser::{ParseFault, parse};
 use std::alloc::Global;
 use std::test::Fail;
@@ -84,6 +84,34 @@ fn sources_are_read_or_refused_at_their_place(rt: HostRuntime) -> Result<(), Fai
     for (source, answer) in &ROWS {
         assert_eq!(rt; read(rt.alloc(), source.as_bytes()), *answer, "of {source}");
     }
+    Ok(())
+}
+
+/// How many tokens each function definition of a source has.
+fn lengths(alloc: Global, source: &[u8]) -> Result<Vec<usize>, Fail> {
+    let mut found = Vec::new(alloc);
+    let Ok(tokens) = lex(alloc, source) else {
+        return Ok(found);
+    };
+    let Ok(unit) = parse(alloc, &tokens) else {
+        return Ok(found);
+    };
+    for item in unit.items.as_slice() {
+        if let External::Definition(definition) = item {
+            found.push(spell_definition(alloc, definition)?.len())?;
+        }
+    }
+    Ok(found)
+}
+
+#[test]
+fn definitions_are_spelt_by_themselves(rt: HostRuntime) -> Result<(), Fail> {
+    let alloc = rt.alloc();
+    let found = lengths(
+        alloc,
+        b"int x;int f(void){return x;}int y;int g(int a){return f()+a;}",
+    )?;
+    assert_eq!(rt; found.as_slice(), [10, 15].as_slice());
     Ok(())
 }
 
