@@ -6,7 +6,7 @@ mod word_count;
 
 use crate::tests::shown::shown;
 use crate::tests::trees::unit;
-use crate::{External, spell};
+use crate::{External, spell, spell_definition};
 use std::alloc::Global;
 use std::test::Fail;
 use word_ops::Items;
@@ -22,6 +22,22 @@ fn a_unit_is_spelt_as_its_source(rt: HostRuntime) -> Result<(), Fail> {
     word_count::word_count(rt.alloc(), &mut items)?;
     let text = spelt(rt.alloc(), items)?;
     assert_eq!(rt; text.as_str(), word_count::SOURCE);
+    Ok(())
+}
+
+#[test]
+fn a_definition_is_spelt_by_itself(rt: HostRuntime) -> Result<(), Fail> {
+    let mut items = Items::new(rt.alloc());
+    word_count::word_count(rt.alloc(), &mut items)?;
+    let mut text = String::new(rt.alloc());
+    for item in items.as_slice() {
+        if let External::Definition(definition) = item {
+            let kinds = spell_definition(rt.alloc(), definition)?;
+            text = shown(rt.alloc(), kinds.as_slice())?;
+        }
+    }
+    assert!(rt; word_count::SOURCE.ends_with(text.as_str()));
+    assert!(rt; text.as_str().starts_with("int main"));
     Ok(())
 }
 

@@ -1,18 +1,14 @@
 //! Calls one layer by itself, for the timings of `bench/`.
 //!
-//!     ccai_bench run IMAGE STEPS      runs an image for at most so many steps; the status is the program's
-//!     ccai_bench lex SOURCE           reads the tokens of a source; the status is 0
-//!     ccai_bench expression SOURCE    reads a source's tokens and from them one expression, which is all of it
-//!     ccai_bench unit SOURCE          reads a source's tokens and from them a unit
+//!     ccai_bench run IMAGE STEPS    runs an image for at most so many steps; the status is the program's
+//!     ccai_bench lex SOURCE         reads the tokens of a source; the status is 0
 //!
 //! The status is 64 where the words are not so, 65 where the file is refused or memory is wanting, and 73
 //! where the program did not end by itself.
 #![tactic(auto)]
 
-use c_tree::Tokens;
 use ccai_io::{FileShelf, Shelf, StdSink, StdSource};
 use rv_machine::End;
-use scope_map::ScopeMap;
 use std::process::ExitCode;
 use std::{env, io};
 
@@ -27,14 +23,6 @@ const SPENT: u8 = 73;
 
 /// The greatest length of a source that the lexer takes, in bytes.
 const LONGEST_SOURCE: usize = u32::MAX as usize - 1;
-
-/// How far a source is read.
-#[derive(Clone, Copy)]
-enum Layer {
-    Lex,
-    Expression,
-    Unit,
-}
 
 fn main(rt: HostRuntime) -> ExitCode {
     ExitCode::from(status(&rt))
@@ -58,10 +46,7 @@ fn words(rt: &HostRuntime) -> io::Result<Vec<String>> {
 
 fn call(rt: &HostRuntime, words: &[String]) -> u8 {
     match words {
-        [command, file] => match layer_of(command.as_str()) {
-            Some(layer) => read_file(rt, layer, file.as_str()),
-            None => USAGE,
-        },
+        [command, file] if command.as_str() == "lex" => lex_file(rt, file.as_str()),
         [command, file, steps] if command.as_str() == "run" => match steps.parse::<u64>() {
             Ok(steps) => run_file(rt, file.as_str(), steps),
             Err(_) => USAGE,
@@ -70,46 +55,18 @@ fn call(rt: &HostRuntime, words: &[String]) -> u8 {
     }
 }
 
-fn layer_of(command: &str) -> Option<Layer> {
-    match command {
-        "lex" => Some(Layer::Lex),
-        "expression" => Some(Layer::Expression),
-        "unit" => Some(Layer::Unit),
-        _ => None,
-    }
-}
-
-fn read_file(rt: &HostRuntime, layer: Layer, file: &str) -> u8 {
+fn lex_file(rt: &HostRuntime, file: &str) -> u8 {
     match FileShelf::new(rt).take(rt.alloc(), file) {
-        Ok(bytes) => read(rt, layer, bytes.as_slice()),
+        Ok(bytes) => lex(rt, bytes.as_slice()),
         Err(_) => REFUSED,
     }
 }
 
-fn read(rt: &HostRuntime, layer: Layer, source: &[u8]) -> u8 {
+fn lex(rt: &HostRuntime, source: &[u8]) -> u8 {
     if source.len() > LONGEST_SOURCE {
         return REFUSED;
     }
-    let Ok(tokens) = c_lexer::lex(rt.alloc(), source) else {
-        return REFUSED;
-    };
-    match layer {
-        Layer::Lex => 0,
-        Layer::Expression => read_expression(rt, &tokens),
-        Layer::Unit => read_unit(rt, &tokens),
-    }
-}
-
-fn read_expression(rt: &HostRuntime, tokens: &Tokens) -> u8 {
-    let mut names = ScopeMap::new(rt.alloc());
-    match c_expr_parser::expression(rt.alloc(), tokens, 0, &mut names, 0) {
-        Ok((_, behind)) if behind == tokens.list.len() => 0,
-        _ => REFUSED,
-    }
-}
-
-fn read_unit(rt: &HostRuntime, tokens: &Tokens) -> u8 {
-    match c_unit_parser::parse(rt.alloc(), tokens) {
+    match c_lexer::lex(rt.alloc(), source) {
         Ok(_) => 0,
         Err(_) => REFUSED,
     }
