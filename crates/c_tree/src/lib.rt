@@ -8,8 +8,6 @@ mod refusal;
 mod specifier;
 mod spelling;
 mod statement;
-#[cfg(test)]
-mod tests;
 mod token;
 pub mod typed;
 mod unit;

@@ -13,8 +13,6 @@
 mod expression;
 mod operator;
 mod statement;
-#[cfg(test)]
-mod tests;
 mod types;
 mod unit;
 
