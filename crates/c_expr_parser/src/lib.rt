@@ -16,8 +16,6 @@ mod operands;
 mod operators;
 mod production;
 mod specifier;
-#[cfg(test)]
-mod tests;
 mod wanted;
 mod words;
 

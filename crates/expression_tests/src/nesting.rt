@@ -1,10 +1,8 @@
 ghost use Rattle.std.specs.Prelude.{◌≤◌};
 
-use crate::calls::{declarator, expression, specifiers};
-use crate::fault::ParseFault;
-use crate::tests::answers::with_t;
-use crate::tests::source::tokens;
-use crate::wanted::Use;
+use crate::answers::with_t;
+use crate::source::tokens;
+use c_expr_parser::{ParseFault, Use, declarator, expression, specifiers};
 use std::alloc::Global;
 use std::process::Abort;
 use std::test::Fail;

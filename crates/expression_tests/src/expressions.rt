@@ -1,4 +1,4 @@
-use crate::tests::answers::{Call, expect_all, read, with_t};
+use crate::answers::{Call, expect_all, read, with_t};
 use std::test::Fail;
 
 #[test]

@@ -1,6 +1,6 @@
 //! Trees as their tokens, with a blank between and `< >` around each node that has a list.
 
-use crate::tests::source::PUNCTS;
+use crate::source::PUNCTS;
 use c_tree::{
     Branch, Declarator, DeclaratorSuffix, Direct, Enumerator, Expr, Identifier, Literal, Mark,
     Member, MemberDeclarator, Next, Parameter, Pointer, Prefix, Punct, Specifier, Storage, Suffix,

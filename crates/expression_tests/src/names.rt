@@ -1,7 +1,6 @@
-use crate::calls::Names;
-use crate::tests::answers::{Call, read, read_declarator, read_specifiers, with_t};
-use crate::tests::source::text;
-use crate::wanted::Use;
+use crate::answers::{Call, read, read_declarator, read_specifiers, with_t};
+use crate::source::text;
+use c_expr_parser::{Names, Use};
 use std::alloc::Global;
 use std::process::Abort;
 use std::test::Fail;

@@ -1,5 +1,5 @@
-use crate::tests::answers::{read_declarator, read_specifiers, with_t};
-use crate::wanted::Use;
+use crate::answers::{read_declarator, read_specifiers, with_t};
+use c_expr_parser::Use;
 use std::alloc::Global;
 use std::process::Abort;
 use std::test::Fail;

@@ -1,10 +1,10 @@
 //! What a call answers to a source, as text: the tree and the place behind it, or the fault and its column.
 
-use crate::calls::{Names, assignment, conditional, declarator, expression, specifiers};
-use crate::fault::ParseFault;
-use crate::tests::shown::{put_declarator, put_expr, put_specifiers};
-use crate::tests::source::{text, tokens};
-use crate::wanted::Use;
+use crate::shown::{put_declarator, put_expr, put_specifiers};
+use crate::source::{text, tokens};
+use c_expr_parser::{
+    Names, ParseFault, Use, assignment, conditional, declarator, expression, specifiers,
+};
 use c_tree::Expr;
 use scope_map::ScopeMap;
 use std::alloc::Global;
