@@ -1,0 +1,10 @@
+pub mod Places
+pub mod Answers
+pub mod Turns
+pub mod Firsts
+pub mod Called
+pub mod NextToName
+pub mod Puts
+pub mod Declared
+pub mod Whole
+pub mod Depth

@@ -1,0 +1,8 @@
+pub mod Reads
+pub mod Kinds
+pub mod Wanted
+pub mod Nests
+pub mod Beside
+pub mod Parts
+pub mod Declares
+pub mod Units

@@ -1,0 +1,25 @@
+//! What a call is asked for that reads what is nested by one more, and what it gives.
+
+use c_tree::{BlockItem, Declaration, Initialiser, Stmt};
+
+/// What is to be read.
+#[derive(Clone, Copy, Debug, PartialEq, Eq)]
+pub enum Wanted {
+    /// An initialiser, in braces.
+    Initialiser,
+    /// A declaration, in the brackets of `for`.
+    Declaration,
+    /// An item of a block, where labels may stand or not.
+    Item(bool),
+    /// A body that is no block.
+    Body,
+}
+
+/// What was read.
+#[derive(Drop)]
+pub enum Found {
+    Initialiser(Initialiser),
+    Declaration(Declaration),
+    Item(BlockItem),
+    Body(Stmt),
+}
