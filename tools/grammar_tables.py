@@ -2,9 +2,9 @@
 """Writes what the grammar has for each punctuator and for each kind of node.
 
 Run from the top of the repository: `python3 tools/grammar_tables.py`. It writes the files of
-crates/c_grammar/specs and crates/c_unit_grammar/specs that begin with the line GENERATED below: the
-numbers of the punctuators and of the keywords, the cases of each enum of trees, and the fold that tells
-how a tree ends, from the tables of tools/tree_equations.py.
+crates/c_grammar/specs, crates/c_unit_grammar/specs and crates/c_typing_laws/specs that begin with the line
+GENERATED below: the numbers of the punctuators and of the keywords, the cases of each enum of trees, the
+inductions over trees, and the fold that tells how a tree ends, from the tables of tools/tree_equations.py.
 """
 
 import re
@@ -85,8 +85,8 @@ def needed(name, body):
     return re.search(rf"(?<![\w'-]){re.escape(name)}(?![\w'-])", body) is not None
 
 
-def write(path, lines):
-    file = SPECS / path
+def write(path, lines, specs=SPECS):
+    file = specs / path
     file.parent.mkdir(parents=True, exist_ok=True)
     body = "\n".join(line for line in lines if not line.startswith("use "))
     kept = [used(line, body) if line.startswith("use ") else line for line in lines]
@@ -156,28 +156,39 @@ def told():
     return out
 
 
-def claim(kind, tree="x"):
+def declares_none(kind, tree="x"):
     """A parameter may declare a typedef name, which its list's scope holds back."""
     return "Unit {0}" if kind == "Parameter" else f"NoTypedefs ({snake(kind)}_level {tree})"
 
 
-def declared():
-    """A node whose parts are known to declare no typedef names, and the induction over trees by such nodes."""
+# What typing is shown to say of a node of each kind, where it tells no fault.
+ANSWERS = {
+    "DeclaratorSuffix": "Suffixes", "Direct": "Derives", "Expr": "Says", "Prefix": "Prefixes", "Suffix": "Continues", "Enumerator": "Counts",
+    "Specifier": "IsSpecific", "Declarator": "Derives", "Parameter": "Listed", "Branch": "Branches", "Next": "Operates",
+    "TypeName": "NamesType", "Member": "ListsMembers", "MemberDeclarator": "Derives",
+}
+
+
+def answers(kind, tree="x"):
+    return f"{ANSWERS[kind]} ({snake(kind)}_typing {tree})"
+
+
+def known(what, claim, uses):
+    """A node of whose parts a claim is known, and the induction over trees by such nodes."""
     kinds = list(TREE)
     bare = " ".join(f"Known{kind}" for kind in kinds)
     trees = " ".join(kinds)
     firsts = " ".join("(λ e. e.0)" for _ in kinds)
     claims = " ".join(f"(λ x. {claim(kind)})" for kind in kinds)
     steps = " ".join(f"(λ x y is. subst (λ z. {claim(kind, f'(roll-{kind} z)')}) is (steps.of_{snake(kind)} y))" for kind in kinds)
-    out = [GENERATED, "-- What is shown of each node whose parts declare no typedef names holds of every tree."]
+    out = [GENERATED, f"-- What is shown of {what} holds of every tree."]
     out += ["use Rattle.std.specs.Prelude.{◌≡◌}", "use Rattle.std.proofs.Common.{subst}"]
     for kind, (file, _, _) in TREE.items():
         out.append(f"use Rattle.c_tree.specs.declared.{file}.{kind}.{{{kind}, roll-{kind}}}")
     out.append(f"use {AT}.TheOpen.{{{', '.join(kind + '-F' for kind in kinds)}}}")
     out.append(f"use {AT}.TheFolds.{{{', '.join(f'map-{kind}, ind-{kind}' for kind in kinds)}}}")
     out.append(f"use Rattle.c_tree.specs.Layers.{{{', '.join(kind + 'Layer' for kind in kinds)}}}")
-    out.append(f"use Rattle.c_tree.specs.Levels.Trees.{{{', '.join(snake(kind) + '_level' for kind in kinds)}}}")
-    out.append("use Rattle.c_grammar.specs.Fronts.{NoTypedefs}")
+    out += uses
     for kind in kinds:
         out += ["", f"abbrev pub Known{kind} : Type 0", f"Known{kind} = (x : {kind}) × {claim(kind)}"]
     for kind in kinds:
@@ -191,9 +202,23 @@ def declared():
     return out
 
 
+def declared():
+    levels = ", ".join(f"{snake(kind)}_level" for kind in TREE)
+    return known("each node whose parts declare no typedef names", declares_none,
+                 [f"use Rattle.c_tree.specs.Levels.Trees.{{{levels}}}", "use Rattle.c_grammar.specs.Fronts.{NoTypedefs}"])
+
+
+def answered():
+    typings = ", ".join(f"{snake(kind)}_typing" for kind in TREE)
+    return known("typing of each node whose parts answer", answers,
+                 [f"use Rattle.c_typing.specs.Trees.{{{typings}}}", "use Rattle.c_typing_laws.specs.Declarators.{Says, Derives, Counts, IsSpecific}",
+                  "use Rattle.c_typing_laws.specs.OfTrees.{Suffixes, Prefixes, Continues, Branches, Operates, NamesType, ListsMembers, Listed}"])
+
+
 punctuators()
 keywords()
 write("Laws/Cases.antt", cases())
 write("Laws/Told.antt", told())
 write("Laws/Known.antt", declared())
 write("Ending/Trees.antt", endings())
+write("Known.antt", answered(), Path("crates/c_typing_laws/specs"))

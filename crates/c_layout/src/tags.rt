@@ -64,6 +64,13 @@ impl Tags {
         }
     }
 
+    /// How many structure types there are.
+    pub fn len(&self) -> usize
+        ensures { result ≡ length self.now }
+    {
+        self.list.len()
+    }
+
     /// Adds a structure type without members (C11 6.7.2.3p8), and gives its number.
     ///
     /// # Errors

@@ -200,9 +200,14 @@ pub record Parts : Type 0 where
 abbrev pub nothing : Parts
 nothing = record { words = []; storages = []; constant = false; types = [] }
 
-abbrev pub typedef_meant : Option Meaning → Option CType
-typedef_meant (Some (TypedefOf t)) = Some t
-typedef_meant m = None
+-- the type of a typedef name; the name of no type is Undeclared, and nothing is asked of one whose type has a fault
+abbrev pub typedef_meant : Identifier → Option Meaning → Walk CType
+typedef_meant id (Some (TypedefOf t)) = give t
+typedef_meant id (Some Unknown) = unasked
+typedef_meant id m = tell kind.Undeclared id.place
+
+abbrev pub typedef_name_row : Identifier → Walk CType
+typedef_name_row id = here (λ c s. typedef_meant id (latest s.names id.text))
 
 abbrev pub with_type : Parts → Option CType → Parts
 with_type r t = record r { types = r.types ++ t ∷ [] }
@@ -212,7 +217,7 @@ with_specifier alone r (Storing s) = give (record r { storages = r.storages ++ s
 with_specifier alone r Qualifying = give (record r { constant = true })
 with_specifier alone r (Wording w) = give (record r { words = r.words ++ w ∷ [] })
 with_specifier alone r (Naming f) = f alone >>= λ t. give (with_type r t)
-with_specifier alone r (Using id) = here (λ c s. give (with_type r (typedef_meant (latest s.names id.text))))
+with_specifier alone r (Using id) = typedef_name_row id >>= λ t. give (with_type r t)
 
 abbrev pub read_specifiers : (alone : Bool) → Parts → List Specified → Walk Parts
 read_specifiers alone r [] = give r

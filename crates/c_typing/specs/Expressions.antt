@@ -35,7 +35,7 @@ use Rattle.c_layout.specs.Structures.{member_of}
 use Rattle.c_typing.specs.Faults.{Fault, fault}
 use Rattle.c_typing.specs.Types.{in_word, int, unsigned, void, plain, pointer_to, derived_from, constant_if, Shape, FunctionOf, shape, is_integer, is_pointer, is_void, is_struct, is_bool, is_scalar, is_array, is_function, is_constant, unqualified, alike}
 use Rattle.c_typing.specs.Conversions.{scalar_of}
-use Rattle.c_typing.specs.Scopes.{Name, Meaning, EnumeratorOf, Automatic, Static, Linked, Unknown, State, Walk, give, unasked, tell, offer, ◌>>=◌, asked, both_asked, beside, fault_if, unless, unready_if, here, change, latest, number_in}
+use Rattle.c_typing.specs.Scopes.{Name, Meaning, TypedefOf, EnumeratorOf, Automatic, Static, Linked, Unknown, State, Walk, give, unasked, tell, offer, ◌>>=◌, asked, both_asked, beside, fault_if, unless, unready_if, here, change, latest, number_in}
 use Rattle.c_typing.specs.Operands.{Operand, Form, Value, Place, Named, tree_of, operand, value, number, then_step, then_unary, is_lvalue, in_register, numbered, as_form, valued, dropping, is_null_constant, converted, conversion_to, target_of, is_assignable}
 use Rattle.c_typing.specs.Operators.{Plan, Row, Other, Wrong, Planned, promoted_type, promoted_sign, pointer_and_integer, integer_and_pointer, plus_stride, stride_plus, first_row, binary, contained, chosen}
 
@@ -53,7 +53,9 @@ meant id (Some (Automatic t place n r)) = give (operand (Named place n r) t (x.P
 meant id (Some (Static t n)) = give (operand Place t (x.Primary t (primary.Static n)))
 meant id (Some (Linked t)) =
     unless (is_function t) kind.FunctionUse id.place (here (λ c s. linked_object id t (number_in 0 c.objects id.text)))
-meant id (Some m) = unasked
+-- the name of a type is none of an object (p2); no primary of a levelled tree is one
+meant id (Some (TypedefOf t)) = tell kind.Undeclared id.place
+meant id (Some Unknown) = unasked
 
 abbrev pub name_row : Identifier → Walk Operand
 name_row id = here (λ c s. meant id (latest s.names id.text))

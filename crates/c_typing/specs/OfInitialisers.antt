@@ -1,11 +1,11 @@
 -- Initialisers (C11 6.7.9): which part of an object each expression in braces initialises, where inner braces may be left out
 -- (p17 to p23). What the expressions are is told apart from where they stand.
-use Rattle.std.specs.Prelude.{ℕ, zero, suc, ◌+◌, ◌*◌, nat_lt, nat_le, Bool, false, ◌&&◌, ◌||◌, if◌then◌else◌, List, [], ◌∷◌, ◌++◌, Option, Some, None, length, slice_get, is_some, unwrap_or}
+use Rattle.std.specs.Prelude.{ℕ, zero, suc, ◌+◌, ◌-◌, ◌*◌, ◌^◌, min, nat_lt, nat_le, Bool, false, ◌&&◌, ◌||◌, if◌then◌else◌, List, [], ◌∷◌, ◌++◌, Option, Some, None, length, slice_get, is_some, unwrap_or}
 use Rattle.c_tree.specs.declared.token.Pos.{Pos}
 use Rattle.c_tree.specs.declared.refusal.FaultKind.TheVariants as kind
 use Rattle.c_tree.specs.declared.typed.types.Base.{Base}
 use Rattle.c_tree.specs.declared.typed.types.Base.TheVariants as base
-use Rattle.c_tree.specs.declared.typed.types.CType.{CType, out-CType}
+use Rattle.c_tree.specs.declared.typed.types.CType.{CType}
 use Rattle.c_tree.specs.declared.declaration.Initialiser.TheOpen.{Initialiser-F, InitialiserItem-F}
 use Rattle.c_layout.specs.declared.tags.MemberLayout.{MemberLayout}
 use Rattle.c_layout.specs.Tags.{Structs, layout_of}
@@ -13,12 +13,13 @@ use Rattle.c_layout.specs.Sizes.{size_of}
 use Rattle.c_typing.specs.Faults.{fault}
 use Rattle.c_typing.specs.Types.{in_word, Shape, Basic, ArrayOf, shape, is_struct, is_scalar, is_character}
 use Rattle.c_typing.specs.Scopes.{Walk, give, ◌>>=◌, asked, beside, here}
-use Rattle.c_typing.specs.Operands.{Operand, valued}
+use Rattle.c_typing.specs.Operands.{Operand}
 use Rattle.c_typing.specs.Declarators.{Expressed}
 pub use Rattle.c_typing.specs.declared.initialiser.Leaf.{Leaf}
 pub use Rattle.c_typing.specs.declared.initialiser.Leaf.TheVariants.{Given, Text, Wrong}
 pub use Rattle.c_typing.specs.declared.initialiser.Filled.{Filled}
 pub use Rattle.c_typing.specs.declared.initialiser.Frame.{Frame}
+pub use Rattle.c_typing.specs.declared.initialiser.Piece.{Piece}
 use Rattle.c_typing.specs.Trees.{expr_typing}
 
 -- an initialiser: its first token, the expression that it is where it has no braces, and how it fills an object of a type, so many
@@ -68,64 +69,69 @@ members_of structs (base.Struct n) = elim (layout_of structs n) as (λ l. List M
 members_of structs b = []
 
 -- a part of an aggregate by its number: where it begins, and its type
-abbrev pub member_part : (offset : ℕ) → Option MemberLayout → Option (ℕ × CType)
+abbrev pub member_part : (offset : ℕ) → Option MemberLayout → Option Piece
 member_part offset None = None
-member_part offset (Some m) = Some (in_word (offset + m.offset), m.ctype)
+member_part offset (Some m) = Some (record { offset = in_word (offset + m.offset); ctype = m.ctype })
 
-abbrev pub part_by : Structs → Shape → (offset i : ℕ) → Option (ℕ × CType)
-part_by structs (ArrayOf None t) offset i = Some (in_word (offset + i * unwrap_or (size_of structs t) 0), t)
-part_by structs (ArrayOf (Some n) t) offset i = if nat_lt i n then Some (in_word (offset + i * unwrap_or (size_of structs t) 0), t) else None
+abbrev pub element_part : Structs → (offset i : ℕ) → CType → Piece
+element_part structs offset i t = record { offset = in_word (offset + i * unwrap_or (size_of structs t) 0); ctype = t }
+
+abbrev pub part_by : Structs → Shape → (offset i : ℕ) → Option Piece
+part_by structs (ArrayOf None t) offset i = Some (element_part structs offset i t)
+part_by structs (ArrayOf (Some n) t) offset i = if nat_lt i n then Some (element_part structs offset i t) else None
 part_by structs (Basic b) offset i = member_part offset (slice_get (members_of structs b) i)
 part_by structs s offset i = None
 
-abbrev pub next_part : Structs → Frame → Option (ℕ × CType)
+abbrev pub next_part : Structs → Frame → Option Piece
 next_part structs f = part_by structs (shape f.ctype) f.offset f.passed
 
--- the innermost aggregate that has a part left; the outer ones lie behind it
-abbrev pub settled : Structs → List Frame → List Frame
-settled structs [] = []
-settled structs (f ∷ fs) = if is_some (next_part structs f) then f ∷ fs else settled structs fs
+-- a number of parts as 64 bits hold it: no list has more items
+abbrev pub in_count : ℕ → ℕ
+in_count n = min n (2 ^ 64 - 1)
 
 abbrev pub passing : Frame → Frame
-passing f = record f { passed = f.passed + 1 }
+passing f = record f { passed = in_count (f.passed + 1) }
+
+-- the next part of the innermost aggregate that has one left, and the aggregates that are open behind it
+abbrev pub next_piece : Structs → List Frame → Option Piece × List Frame
+next_piece structs [] = (None, [])
+next_piece structs (f ∷ fs) =
+    elim (next_part structs f) as (λ q. Option Piece × List Frame) [ None ↦ next_piece structs fs | Some q ↦ (Some q, passing f ∷ fs) ]
 
 -- what an expression without braces initialises as a whole: a part of scalar type, an array of characters by a string, a structure
 -- by a value of such a type (p13, p14)
 abbrev pub is_struct_value : Option Operand → Bool
-is_struct_value (Some o) = is_struct (valued o).ctype
+is_struct_value (Some o) = is_struct o.ctype
 is_struct_value None = false
 
+abbrev pub takes_text : Shape → Bool
+takes_text (ArrayOf n t) = is_character t
+takes_text s = false
+
 abbrev pub string_fits : Shape → Option (List ℕ) → Bool
-string_fits (ArrayOf n t) (Some bytes) = is_character t
-string_fits s o = false
+string_fits s literal = is_some literal && takes_text s
+
+abbrev pub takes_whole : (is_string is_structure : Bool) → CType → Bool
+takes_whole is_string is_structure t = is_scalar t || ((is_string && takes_text (shape t)) || (is_structure && is_struct t))
 
 -- the aggregates around the part for an expression, and the part; as deep as types nest
-abbrev pub descend_into : (List Frame → ℕ → CType → List Frame × (ℕ × CType)) → List Frame → (offset : ℕ) → CType → Option (ℕ × CType) → List Frame × (ℕ × CType)
-descend_into further fs offset t None = (fs, (offset, t))
-descend_into further fs offset t (Some q) = further (record { ctype = t; offset = offset; passed = 1 } ∷ fs) q.0 q.1
+abbrev pub descend_into : (List Frame → Piece → List Frame × Piece) → List Frame → Piece → Option Piece → List Frame × Piece
+descend_into further fs q None = (fs, q)
+descend_into further fs q (Some p) = further (record { ctype = q.ctype; offset = q.offset; passed = 1 } ∷ fs) p
 
-abbrev pub descend : (depth : ℕ) → Structs → (whole : CType → Bool) → List Frame → (offset : ℕ) → CType → List Frame × (ℕ × CType)
-descend zero structs whole fs offset t = (fs, (offset, t))
-descend (suc depth) structs whole fs offset t =
-    if whole t then (fs, (offset, t)) else descend_into (descend depth structs whole) fs offset t (part_by structs (shape t) offset 0)
+unfoldable pub descend : (depth : ℕ) → Structs → (whole : CType → Bool) → List Frame → Piece → List Frame × Piece
+descend zero structs whole fs q = (fs, q)
+descend (suc depth) structs whole fs q =
+    if whole q.ctype then (fs, q) else descend_into (descend depth structs whole) fs q (part_by structs (shape q.ctype) q.offset 0)
 
--- no type nests deeper than this: each structure on the way is another one
-abbrev pub derivations_of : List MemberLayout → ℕ
-derivations_of [] = 0
-derivations_of (m ∷ ms) = length (out-CType m.ctype).derived + 1 + derivations_of ms
-
-abbrev pub depth_of : Structs → ℕ
-depth_of [] = 0
-depth_of (None ∷ ls) = depth_of ls
-depth_of (Some l ∷ ls) = derivations_of l.members + depth_of ls
+-- no type nests deeper than this
+abbrev pub greatest_depth : ℕ
+greatest_depth = 2 ^ 64 - 1
 
 -- one expression in a list
-abbrev pub takes_whole : Expressed → Option Operand → CType → Bool
-takes_whole e o t = is_scalar t || (string_fits (shape t) e.literal || (is_struct t && is_struct_value o))
-
-abbrev pub leaf_at : Expressed → Option Operand → Option (List ℕ) → ℕ × CType → Shape → Walk Filled
-leaf_at e o (Some bytes) q (ArrayOf n u) = text_row q.0 e.first bytes n
-leaf_at e o literal q s = filled (Given q.0 q.1 e.first o ∷ [])
+abbrev pub leaf_at : Pos → Option (List ℕ) → Option Operand → Piece → Shape → Walk Filled
+leaf_at first (Some bytes) o q (ArrayOf n u) = text_row q.offset first bytes n
+leaf_at first literal o q s = filled (Given q.offset q.ctype first o ∷ [])
 
 -- what was filled by an item, and the aggregates that are open behind it
 pub record Placed : Type 0 where
@@ -135,32 +141,34 @@ pub record Placed : Type 0 where
 abbrev pub placed_by : List Frame → Walk Filled → Walk Placed
 placed_by fs w = w >>= λ r. asked r (λ r. give (record { leaves = r.leaves; around = fs }))
 
+abbrev pub placed_in : Pos → Option (List ℕ) → Option Operand → List Frame × Piece → Walk Placed
+placed_in first literal o r = placed_by r.0 (leaf_at first literal o r.1 (shape r.1.ctype))
+
+abbrev pub expression_placed : Pos → Option (List ℕ) → List Frame → Piece → Option Operand → Walk Placed
+expression_placed first literal fs q o =
+    here (λ c s. placed_in first literal o (descend greatest_depth s.structs (takes_whole (is_some literal) (is_struct_value o)) fs q))
+
 -- a string that initialises an array makes no object of its own
-abbrev pub is_string_for : Structs → Expressed → List Frame → ℕ × CType → Bool
-is_string_for structs e fs q = string_fits (shape (descend (depth_of structs + length (out-CType q.1).derived + 1) structs (λ t. is_scalar t || string_fits (shape t) e.literal) fs q.0 q.1).1.1) e.literal
+abbrev pub is_string_for : Structs → Option (List ℕ) → Piece → Bool
+is_string_for structs literal q =
+    string_fits (shape (descend greatest_depth structs (takes_whole (is_some literal) false) [] q).1.ctype) literal
 
-abbrev pub expression_placed : Structs → Expressed → Option Operand → List Frame → ℕ × CType → Walk Placed
-expression_placed structs e o fs q =
-    let r = descend (depth_of structs + length (out-CType q.1).derived + 1) structs (takes_whole e o) fs q.0 q.1 in
-    placed_by r.0 (leaf_at e o e.literal r.1 (shape r.1.1))
+abbrev pub expression_item : Expressed → List Frame → Piece → Walk Placed
+expression_item e fs q =
+    here (λ c s. if is_string_for s.structs e.literal q then expression_placed e.first e.literal fs q None
+    else (e.typed >>= expression_placed e.first e.literal fs q))
 
-abbrev pub expression_item : Structs → Expressed → List Frame → ℕ × CType → Walk Placed
-expression_item structs e fs q =
-    if is_string_for structs e fs q then expression_placed structs e None fs q
-    else (e.typed >>= λ o. expression_placed structs e o fs q)
-
-abbrev pub item_at : Structs → Initialising → Option Expressed → List Frame → ℕ × CType → Walk Placed
-item_at structs i (Some e) fs q = expression_item structs e fs q
-item_at structs i None fs q = placed_by fs (i.fill q.0 q.1)
+abbrev pub item_at : Initialising → Option Expressed → List Frame → Piece → Walk Placed
+item_at i (Some e) fs q = expression_item e fs q
+item_at i None fs q = placed_by fs (i.fill q.offset q.ctype)
 
 -- where there is no part left for an item, the list has too many of them: the fault stands at its first token
-abbrev pub item_part : Structs → (list : Pos) → Initialising → Frame → List Frame → Option (ℕ × CType) → Walk Placed
-item_part structs list i f fs (Some q) = item_at structs i i.single (passing f ∷ fs) q
-item_part structs list i f fs None = placed_by [] (wrong_at list)
+abbrev pub item_if : (list : Pos) → Initialising → List Frame → Option Piece → Walk Placed
+item_if list i fs (Some q) = item_at i i.single fs q
+item_if list i fs None = placed_by fs (wrong_at list)
 
-abbrev pub item_row : Structs → (list : Pos) → Initialising → List Frame → Walk Placed
-item_row structs list i [] = placed_by [] (wrong_at list)
-item_row structs list i (f ∷ fs) = item_part structs list i f fs (next_part structs f)
+abbrev pub item_row : (list : Pos) → Initialising → List Frame → Walk Placed
+item_row list i fs = here (λ c s. item_if list i (next_piece s.structs fs).1 (next_piece s.structs fs).0)
 
 -- how many parts of the outermost aggregate were passed
 abbrev pub passed_of : List Frame → ℕ
@@ -171,7 +179,7 @@ passed_of (f ∷ fs) = passed_of fs
 abbrev pub items_row : (list : Pos) → List Initialising → List Frame → Walk Filled
 items_row list [] fs = give (record { leaves = []; count = passed_of fs })
 items_row list (i ∷ is) fs =
-    here (λ c s. item_row s.structs list i (settled s.structs fs)) >>= λ a. asked a (λ a.
+    item_row list i fs >>= λ a. asked a (λ a.
     items_row list is a.around >>= λ rest. asked rest (λ rest. give (record { leaves = a.leaves ++ rest.leaves; count = rest.count })))
 
 -- ---- a list in braces

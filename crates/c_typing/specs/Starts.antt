@@ -1,6 +1,6 @@
 -- What the parts of an initialiser come to: values for an automatic object, bytes and addresses for a static one (C11 6.6p7, p9,
 -- 6.7.9p4, p10, p11).
-use Rattle.std.specs.Prelude.{ℕ, zero, suc, ◌+◌, ◌*◌, ◌-◌, ◌/◌, ◌%◌, ◌^◌, ◌==◌, nat_lt, nat_le, Bool, true, false, ◌&&◌, not, if◌then◌else◌, List, [], ◌∷◌, ◌++◌, Option, Some, None, length, slice_get, is_some, unwrap_or}
+use Rattle.std.specs.Prelude.{ℕ, zero, suc, ◌+◌, ◌*◌, ◌-◌, ◌/◌, ◌%◌, ◌^◌, ◌==◌, nat_lt, nat_le, Bool, true, false, ◌&&◌, ◌||◌, not, if◌then◌else◌, List, [], ◌∷◌, ◌++◌, Option, Some, None, length, slice_get, is_some, unwrap_or}
 use Rattle.std.specs.Option.{option_map, option_and_then}
 use Rattle.word_ops.specs.Access.{bytes_of}
 use Rattle.c_tree.specs.declared.token.Pos.{Pos}
@@ -12,12 +12,14 @@ use Rattle.c_tree.specs.declared.typed.operator.Sign.TheVariants as sign
 use Rattle.c_tree.specs.declared.typed.operator.Conversion.TheVariants as conversion
 use Rattle.c_tree.specs.declared.typed.operator.Arithmetic.{Arithmetic}
 use Rattle.c_tree.specs.declared.typed.operator.Arithmetic.TheVariants as arithmetic
+use Rattle.c_tree.specs.declared.typed.operator.Primary.{Primary}
 use Rattle.c_tree.specs.declared.typed.operator.Primary.TheVariants as primary
 use Rattle.c_tree.specs.declared.typed.operator.Stride.{Stride}
 use Rattle.c_tree.specs.declared.typed.operator.Unary.{Unary}
 use Rattle.c_tree.specs.declared.typed.operator.Unary.TheVariants as unary
 use Rattle.c_tree.specs.declared.typed.expression.TExpr.{TExpr, end_of-TExpr, more_of-TExpr, Row_of-Step, end_of-Step, more_of-Step}
 use Rattle.c_tree.specs.declared.typed.expression.TExpr.TheVariants as x
+use Rattle.c_tree.specs.declared.typed.expression.Step.{Step}
 use Rattle.c_tree.specs.declared.typed.expression.Step.TheVariants as step
 use Rattle.c_tree.specs.declared.typed.statement.Initial.{Initial}
 use Rattle.c_tree.specs.declared.typed.statement.Initial.TheVariants as initial
@@ -25,15 +27,15 @@ use Rattle.c_tree.specs.declared.typed.statement.Initialiser.{Initialiser}
 use Rattle.c_tree.specs.declared.typed.statement.Initialiser.TheVariants as initialiser
 use Rattle.c_tree.specs.declared.typed.unit.StaticPart.{StaticPart}
 use Rattle.c_tree.specs.declared.typed.unit.StaticPart.TheVariants as part
-use Rattle.c_layout.specs.Constants.{constant_of, is_constant_unary, is_constant_arithmetic, unary_number, arithmetic_number}
+use Rattle.c_layout.specs.Constants.{constant_of, constant_after}
 use Rattle.c_layout.specs.Sizes.{size_of}
-use Rattle.word_ops.specs.Choice.{when}
-use Rattle.c_typing.specs.Types.{in_word, is_integer, is_pointer}
+use Rattle.c_typing.specs.Types.{in_word, is_bool, is_pointer, is_array}
 use Rattle.c_typing.specs.Conversions.{scalar_of}
 use Rattle.c_typing.specs.Scopes.{Name, Around, State, Walk, give, unasked, tell, offer, ◌>>=◌, asked, both_asked, here, latest, joined}
-use Rattle.c_typing.specs.Operands.{is_null, tree_of, valued}
+use Rattle.c_typing.specs.Operands.{Operand, is_null, tree_of, valued}
 use Rattle.c_typing.specs.Expressions.{given_row}
 use Rattle.c_typing.specs.OfInitialisers.{Leaf, Given, Text, Wrong}
+pub use Rattle.c_typing.specs.declared.initialiser.Address.{Address}
 
 -- ---- automatic objects
 
@@ -60,65 +62,68 @@ initialiser_row t ls = initials_row ls >>= λ is. asked is (λ is.
 
 -- ---- addresses of static objects (6.6p9)
 
--- the number of a static object and a place in it in bytes
-abbrev pub Address : Type 0
-Address = ℕ × ℕ
-
 -- a place so far from another one, where it lies within the object or at its end
 abbrev pub within : (ℕ → ℕ) → ℕ → ℕ → Option Address
-within sizes n offset = if nat_le offset (sizes n) then Some (n, offset) else None
+within sizes n offset = if nat_le offset (sizes n) then Some (record { object = n; offset = offset }) else None
 
 abbrev pub ahead : (ℕ → ℕ) → Address → ℕ → Option Address
-ahead sizes a n = within sizes a.0 (a.1 + n)
+ahead sizes a n = within sizes a.object (a.offset + n)
 
-abbrev pub back : (ℕ → ℕ) → Address → ℕ → Option Address
-back sizes a n = if nat_le n a.1 then Some (a.0, a.1 - n) else None
+abbrev pub back : Address → ℕ → Option Address
+back a n = if nat_le n a.offset then Some (record { object = a.object; offset = a.offset - n }) else None
+
+abbrev pub is_signed_stride : Stride → Bool
+is_signed_stride z = elim z.sign as (λ s. Bool) [ sign.Signed ↦ true | sign.Unsigned ↦ false ]
+
+-- whether a number of elements is negative in its type, and how many they are
+abbrev pub is_negative : Stride → ℕ → Bool
+is_negative z n = is_signed_stride z && nat_le (2 ^ 31) n
+
+abbrev pub far_by : (negative : Bool) → Stride → ℕ → ℕ
+far_by negative z n = (if negative then 2 ^ 32 - n else n) * z.element
 
 -- so many elements ahead, or back where the number is negative in its type
 abbrev pub by_elements : (ℕ → ℕ) → (forward : Bool) → Stride → ℕ → Address → Option Address
 by_elements sizes forward z n a =
-    let negative : Bool = is_signed_stride z && nat_le (2 ^ 31) n in
-    let far : ℕ = (if negative then 2 ^ 32 - n else n) * z.element in
-    if (if negative then not forward else forward) then ahead sizes a far else back sizes a far
-  where
-    is_signed_stride : Stride → Bool
-    is_signed_stride z = elim z.sign as (λ s. Bool) [ sign.Signed ↦ true | sign.Unsigned ↦ false ]
+    if (if is_negative z n then not forward else forward) then ahead sizes a (far_by (is_negative z n) z n)
+    else back a (far_by (is_negative z n) z n)
 
 abbrev pub unary_address : (ℕ → ℕ) → Unary → Address → Option Address
 unary_address sizes (unary.Member n) a = ahead sizes a n
 unary_address sizes (unary.Convert conversion.Pointer) a = Some a
 unary_address sizes u a = None
 
--- a binary operator with a constant, on its right or on its left
-abbrev pub right_address : (ℕ → ℕ) → Arithmetic → Option ℕ → Address → Option Address
-right_address sizes (arithmetic.PointerPlus z) n a = option_and_then (λ n. by_elements sizes true z n a) n
-right_address sizes (arithmetic.PointerMinus z) n a = option_and_then (λ n. by_elements sizes false z n a) n
-right_address sizes o n a = None
+-- an address and a constant
+abbrev pub moved : (ℕ → ℕ) → (forward : Bool) → Stride → Option Address → Option ℕ → Option Address
+moved sizes forward z (Some a) (Some n) = by_elements sizes forward z n a
+moved sizes forward z a n = None
 
-abbrev pub left_address : (ℕ → ℕ) → Arithmetic → Option ℕ → Option Address → Option Address
-left_address sizes (arithmetic.PlusPointer z) (Some n) (Some a) = by_elements sizes true z n a
-left_address sizes o n a = None
+-- a binary operator with an address to its left and a constant to its right, or the other way round
+abbrev pub binary_address : (ℕ → ℕ) → Arithmetic → (left right : Option Address) → (left_number right_number : Option ℕ) → Option Address
+binary_address sizes (arithmetic.PointerPlus z) a b m n = moved sizes true z a n
+binary_address sizes (arithmetic.PointerMinus z) a b m n = moved sizes false z a n
+binary_address sizes (arithmetic.PlusPointer z) a b m n = moved sizes true z b m
+binary_address sizes f a b m n = None
 
-abbrev pub or_else : Option Address → Option Address → Option Address
-or_else (Some a) o = Some a
-or_else None o = o
+abbrev pub primary_address : Primary → Option Address
+primary_address (primary.Static n) = Some (record { object = n; offset = 0 })
+primary_address p = None
 
 abbrev mutual
   -- the address that an expression is, with constant indices, members, offsets and pointer casts
   pub address_of : (ℕ → ℕ) → TExpr → Option Address
-  address_of sizes (x.Primary t (primary.Static n)) = Some (n, 0)
-  address_of sizes (x.Applied' t p (more_of-TExpr a end_of-TExpr) n steps) = stepped_address sizes steps (address_of sizes a) (constant_of a)
+  address_of sizes (x.Primary t p) = primary_address p
+  address_of sizes (x.Applied' t p (more_of-TExpr a end_of-TExpr) n steps) = stepped_address sizes a [] steps (address_of sizes a)
   address_of sizes _ = None
 
-  -- what steps make of an address, or of a constant
-  pub stepped_address : (ℕ → ℕ) → {n : _} → Row_of-Step n → Option Address → Option ℕ → Option Address
-  stepped_address sizes end_of-Step o k = o
-  stepped_address sizes (more_of-Step (step.Unary u) rest) o k =
-      stepped_address sizes rest (option_and_then (unary_address sizes u) o) (when (is_constant_unary u) (option_and_then (unary_number u) k))
-  stepped_address sizes (more_of-Step (step.Binary f b) rest) o k =
-      stepped_address sizes rest
-      (or_else (option_and_then (right_address sizes f (constant_of b)) o) (left_address sizes f k (address_of sizes b)))
-      (when (is_constant_arithmetic f) (option_and_then (λ n. option_and_then (arithmetic_number f n) (constant_of b)) k))
+  -- what further steps make of an address; the steps before them may have made a constant of the first expression
+  pub stepped_address : (ℕ → ℕ) → TExpr → (done : List Step) → {n : _} → Row_of-Step n → Option Address → Option Address
+  stepped_address sizes e done end_of-Step a = a
+  stepped_address sizes e done (more_of-Step (step.Unary u) rest) a =
+      stepped_address sizes e (done ++ step.Unary u ∷ []) rest (option_and_then (unary_address sizes u) a)
+  stepped_address sizes e done (more_of-Step (step.Binary f b) rest) a =
+      stepped_address sizes e (done ++ step.Binary f b ∷ []) rest
+      (binary_address sizes f a (address_of sizes b) (constant_after e done) (constant_of b))
 
 -- ---- static objects
 
@@ -146,11 +151,14 @@ number_parts offset k n = if n == 0 then [] else part.Bytes offset (little_endia
 
 abbrev pub address_parts : Pos → ℕ → Option Address → Walk (List StaticPart)
 address_parts first offset None = tell kind.NotConstant first
-address_parts first offset (Some a) = give (part.Address offset a.0 a.1 ∷ [])
+address_parts first offset (Some a) = give (part.Address offset a.object a.offset ∷ [])
+
+abbrev pub pointer_parts : Pos → ℕ → TExpr → Walk (List StaticPart)
+pointer_parts first offset e =
+    if is_null e then give [] else here (λ c s. address_parts first offset (address_of (static_size c s) e))
 
 abbrev pub value_parts : Pos → ℕ → Option Scalar → TExpr → Option ℕ → Walk (List StaticPart)
-value_parts first offset (Some scalar.Pointer) e n =
-    if is_null e then give [] else here (λ c s. address_parts first offset (address_of (static_size c s) e))
+value_parts first offset (Some scalar.Pointer) e n = pointer_parts first offset e
 value_parts first offset (Some k) e (Some n) = give (number_parts offset k n)
 value_parts first offset k e n = tell kind.NotConstant first
 
@@ -167,11 +175,17 @@ abbrev pub text_parts : ℕ → List ℕ → List StaticPart
 text_parts offset [] = []
 text_parts offset (b ∷ bs) = part.Bytes offset (b ∷ bs) ∷ []
 
+-- an operand whose value is a pointer (6.3.2.1p3)
+abbrev pub points : Operand → Bool
+points o = is_pointer o.ctype || is_array o.ctype
+
+abbrev pub given_start : Pos → ℕ → CType → Operand → Walk (List StaticPart)
+given_start first offset t o =
+    if is_bool t && points o then pointer_truth first offset (tree_of (valued o))
+    else (given_row first t o >>= λ e. asked e (λ e. value_parts first offset (scalar_of t) e (constant_of e)))
+
 abbrev pub start_row : Leaf → Walk (List StaticPart)
-start_row (Given offset t first o) =
-    asked o (given_row first t) >>= λ e. both_asked o e (λ o e.
-    if is_pointer (valued o).ctype && is_integer t then pointer_truth first offset (tree_of (valued o))
-    else value_parts first offset (scalar_of t) e (constant_of e))
+start_row (Given offset t first o) = asked o (given_start first offset t)
 start_row (Text offset bytes) = give (text_parts offset bytes)
 start_row Wrong = unasked
 

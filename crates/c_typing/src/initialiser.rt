@@ -42,3 +42,21 @@ pub struct Frame {
     /// how many of its parts were passed
     pub passed: u64,
 }
+
+/// A part of an aggregate.
+#[derive(Debug, Drop)]
+pub struct Piece {
+    /// where it begins, in bytes from the start of the whole
+    pub offset: u32,
+    /// its type
+    pub ctype: CType,
+}
+
+/// A place in a static object (C11 6.6p9).
+#[derive(Clone, Copy, Debug, PartialEq, Eq)]
+pub struct Address {
+    /// the number of the object in the unit
+    pub object: u32,
+    /// how many bytes from its start
+    pub offset: u32,
+}

@@ -16,7 +16,7 @@ mod scope;
 
 pub use declarator::{Basis, Parameter, Part};
 pub use fault::Fault;
-pub use initialiser::{Filled, Frame, Leaf};
+pub use initialiser::{Address, Filled, Frame, Leaf, Piece};
 pub use laws::{examples, first_is_told};
 pub use operand::{Form, Operand};
 pub use operator::{Plan, Row};

@@ -24,7 +24,7 @@ use Rattle.c_typing.specs.Faults.{Fault, fault, first_of}
 use Rattle.c_typing.specs.Types.{int, plain, made}
 use Rattle.c_typing.specs.Scopes.{Automatic, State, Walk, ◌>>=◌, asked}
 use Rattle.c_typing.specs.Declarators.{Expressed}
-use Rattle.c_typing.specs.OfInitialisers.{Initialising, by_expression, by_list}
+use Rattle.c_typing.specs.OfInitialisers.{Initialising, by_expression, by_list, descend}
 use Rattle.c_typing.specs.Starts.{initialiser_row, starts_row}
 use Rattle.c_typing.specs.OfStatements.{Itemised, States, Cases, Defaults, Stated, evaluate_row, return_row, break_row, continue_row, if_row, while_row, do_row, for_row, Controlling, First, switch_row}
 use Rattle.c_typing.specs.Examples.Read.{at, name, constant, assign, inside, with}
@@ -164,6 +164,7 @@ pub record InitialisersTyped : Type 0 where
   pub static_of_number : (static int (given 5) inside names).given ≡ Some (part.Bytes 0 (5 ∷ 0 ∷ 0 ∷ 0 ∷ []) ∷ [])
 
 pub initialisers_typed : InitialisersTyped
+unfolding descend
 initialisers_typed = record {
   without_braces = refl;
   too_many = refl;

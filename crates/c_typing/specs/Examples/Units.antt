@@ -145,6 +145,11 @@ pub record UnitsTyped : Type 0 where
       ∷ Defines (main_from 54 (returns 69 (constant 76 0) ∷ [])) ∷ [])) ≡ Some (fault kind.StructValue (at 40))
   -- `int x;int x;int main(void){return x;}`: two tentative definitions
   pub tentative : first_in (unit 38 (Declares (int_object 5 120) ∷ Declares (int_object 11 120) ∷ Defines (main_from 13 (returns 28 (name 35 120) ∷ [])) ∷ [])) ≡ None
+  -- `typedef int f(void){return 0;}int main(void){f x;return 0;}`: the name of a function names no type
+  pub no_type : first_in (unit 60 (Defines (defines (typed_specifier (Specifier-F.Storage storage.Typedef (at 1)) ∷ words 9 (word.Int ∷ [])) (named 13 (102 ∷ []) (void_list 14 ∷ []))
+      (returns 21 (constant 28 0) ∷ []))
+      ∷ Defines (main_from 31 (item_of (declares (typed_specifier (Specifier-F.TypedefName (id 46 102)) ∷ []) (named 48 (120 ∷ []) []) None) ∷ returns 50 (constant 57 0) ∷ [])) ∷ [])) ≡
+      Some (fault kind.Undeclared (at 46))
   -- `int putchar(void);int main(void){return 0;}`: a library name with another type
   pub other_putchar : first_in (unit 44 (Declares (declares (words 1 (word.Int ∷ [])) (named 5 (112 ∷ 117 ∷ 116 ∷ 99 ∷ 104 ∷ 97 ∷ 114 ∷ []) (void_list 12 ∷ [])) None)
       ∷ Defines (main_from 19 (returns 34 (constant 41 0) ∷ [])) ∷ [])) ≡ Some (fault kind.Redeclared (at 5))
@@ -168,5 +173,6 @@ units_typed = record {
   structure_passed = refl;
   structure_parameter = refl;
   tentative = refl;
+  no_type = refl;
   other_putchar = refl;
 }
