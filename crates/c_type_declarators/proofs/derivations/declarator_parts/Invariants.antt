@@ -1,0 +1,8 @@
+use Rattle.std.proofs.Common.{◌≡◌, ◌++◌, length, reverse}
+use Rattle.c_type_declarators.proofs.derivations.declarator_parts.Given as goal
+
+abbrev pub invariant-loop-part : goal.invariant-loop-part
+invariant-loop-part l = l.parts ++ reverse l.suffixes ≡ l.initial.parts ++ reverse l.initial.suffixes
+
+abbrev pub decreases-loop-part : goal.decreases-loop-part
+decreases-loop-part l = length l.suffixes

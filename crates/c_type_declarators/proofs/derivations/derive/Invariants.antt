@@ -1,0 +1,11 @@
+use Rattle.std.proofs.Common.{drop}
+use Rattle.c_typing.specs.Declarators as spec
+use Rattle.c_type_walk.specs.Walks.{fixed}
+use Rattle.c_type_declarators.proofs.Left.{Left}
+use Rattle.c_type_declarators.proofs.derivations.derive.Given as goal
+
+abbrev pub invariant-loop-part : goal.invariant-loop-part
+invariant-loop-part l = Left
+    (spec.derive l.at l.parts l.fn.ctype (fixed l.around) l.fn.found.state)
+    (spec.derive l.at (drop l.part-index l.parts) l.derived (fixed l.around) l.found.state)
+    l.fn.found l.found

@@ -1,0 +1,196 @@
+//! Structures (C11 6.7.2.1).
+
+ghost use Rattle.std.specs.Prelude.{◌≡◌, ◌++◌, [], length, nat_lt, true, IfOk, OnOk};
+ghost use Rattle.std.specs.List.{list_any};
+ghost use Rattle.std.specs.Option.{option_copied, option_map};
+ghost use Rattle.c_typing.specs.Declarators as spec;
+ghost use Rattle.std.specs.Str.{bytes_eq};
+ghost use Rattle.c_typing.specs.Scopes as scopes;
+ghost use Rattle.c_layout.specs.Tags.{is_alignment};
+ghost use Rattle.c_type_walk.specs.Walks.{Walks};
+
+use crate::derivations::{MOST_BYTES, complete_row};
+use crate::names::copied_identifier;
+use c_layout::{StructLayout, lay_out};
+use c_tree::typed::{Base, CType};
+use c_tree::{FaultKind, Identifier, Pos};
+use c_type_rules::{copied, plain};
+use c_type_walk::{Around, Found, copied_text};
+use c_typing::Tag;
+use std::alloc::Global;
+use word_ops::{Items, Memory, Text};
+
+/// The number of a structure whose list of members begins here: that of its tag, where this scope has declared it without
+/// a list, else a new one (C11 6.7.2.3p4, p5).
+///
+/// # Errors
+///
+/// `Memory` where memory is wanting.
+pub fn struct_begun(
+    alloc: Global,
+    found: &mut Found,
+    around: &Around<'_>,
+    tag: Option<&Identifier>,
+) -> Result<Option<u32>, Memory>
+    ensures { Walks (spec.struct_begun (option_copied tag.entry)) around.now found.old result found.new }
+{
+    let Some(tag) = tag else {
+        return Ok(Some(found.state.structs.declare()?));
+    };
+    match found.own_tag(around, &tag.text) {
+        None => begin_new(alloc, found, around, tag),
+        Some(Tag::StructTag(number, false)) => begin(alloc, found, around, tag, number),
+        Some(_) => {
+            found.tell_if(true, FaultKind::Redeclared, tag.place)?;
+            begin_new(alloc, found, around, tag)
+        }
+    }
+}
+
+/// The list of members of a new structure type begins.
+fn begin_new(
+    alloc: Global,
+    found: &mut Found,
+    around: &Around<'_>,
+    tag: &Identifier,
+) -> Result<Option<u32>, Memory>
+    ensures { Walks (spec.begin_new tag.now) around.now found.old result found.new }
+{
+    let number = found.state.structs.declare()?;
+    begin(alloc, found, around, tag, number)
+}
+
+/// The list of members of this structure type begins.
+fn begin(
+    alloc: Global,
+    found: &mut Found,
+    around: &Around<'_>,
+    tag: &Identifier,
+    number: u32,
+) -> Result<Option<u32>, Memory>
+    ensures { Walks (spec.begun tag.now number) around.now found.old result found.new }
+{
+    found.declare_tag(alloc, &tag.text, Tag::StructTag(number, true))?;
+    Ok(Some(number))
+}
+
+/// A member of this name and type, which is complete (C11 6.7.2.1p3); no member where there is no name.
+///
+/// # Errors
+///
+/// `Memory` where memory is wanting.
+pub fn member_named(
+    alloc: Global,
+    found: &mut Found,
+    around: &Around<'_>,
+    name: Option<&Identifier>,
+    ctype: Option<CType>,
+) -> Result<Option<Items<(Identifier, Option<CType>)>>, Memory>
+    ensures { Walks (spec.member_named (option_copied name.entry) ctype) around.now found.old result found.new }
+{
+    let mut members = Items::new(alloc);
+    if let Some(name) = name {
+        let ctype = complete_if_any(found, around, name.place, ctype)?;
+        members.push((copied_identifier(alloc, name)?, ctype))?;
+    }
+    Ok(Some(members))
+}
+
+/// A complete type, where there is a type.
+fn complete_if_any(
+    found: &mut Found,
+    around: &Around<'_>,
+    at: Pos,
+    ctype: Option<CType>,
+) -> Result<Option<CType>, Memory>
+    ensures { Walks (scopes.asked ctype (spec.complete_row at)) around.now found.old result found.new }
+{
+    match ctype {
+        Some(ctype) => complete_row(found, around, at, ctype),
+        None => Ok(None),
+    }
+}
+
+/// The structure type of these members: their names differ (C11 6.2.3p1), and the whole has at most 2^24 bytes. Nothing
+/// more is asked where a member has a fault.
+///
+/// # Errors
+///
+/// `Memory` where memory is wanting.
+pub fn members_row(
+    alloc: Global,
+    found: &mut Found,
+    around: &Around<'_>,
+    at: Pos,
+    number: u32,
+    members: &[(Identifier, Option<CType>)],
+) -> Result<Option<CType>, Memory>
+    ensures { Walks (spec.members_row at number members.now) around.now found.old result found.new }
+{
+    if tell_repeated(found, members)? {
+        return Ok(None);
+    }
+    let Some(declared) = as_declared(alloc, members)? else {
+        return Ok(None);
+    };
+    let layout = lay_out(alloc, &found.state.structs, declared)?;
+    completed(alloc, found, around, at, number, layout)
+}
+
+/// Tells of each member whose name stood before (C11 6.2.3p1), and whether there is one.
+fn tell_repeated(found: &mut Found, members: &[(Identifier, Option<CType>)]) -> Result<bool, Memory>
+    ensures any { IfOk result (λ any. any ≡ nat_lt 0 (length (spec.repeated [] members.now))) }
+    ensures faults { OnOk result (found.new.faults ≡ found.old.faults ++ spec.repeated [] members.now) }
+    ensures state { found.new.state ≡ found.old.state }
+{
+    let mut any = false;
+    for (index, member) in members.iter().enumerate() {
+        let stood = has_member(&members[..index], &member.0.text);
+        found.tell_if(stood, FaultKind::Redeclared, member.0.place)?;
+        any = any || stood;
+    }
+    Ok(any)
+}
+
+/// Whether one of these members has this name.
+fn has_member(members: &[(Identifier, Option<CType>)], name: &Text) -> bool
+    ensures { result ≡ list_any (λ m. bytes_eq name.now m.0.text) members.now }
+{
+    members.iter().any(|member| *name == member.0.text)
+}
+
+/// The members as they are declared, or `None` where a fault stands in one.
+fn as_declared(
+    alloc: Global,
+    members: &[(Identifier, Option<CType>)],
+) -> Result<Option<Vec<(Text, CType)>>, Memory>
+    ensures { IfOk result (λ list. option_map (λ v. v.items) list ≡ spec.as_declared members.now) }
+{
+    let mut declared = Vec::new(alloc);
+    for (name, ctype) in members {
+        let Some(ctype) = ctype else {
+            return Ok(None);
+        };
+        declared.push((copied_text(alloc, &name.text)?, copied(alloc, ctype)?))?;
+    }
+    Ok(Some(declared))
+}
+
+/// The structure type gets its layout, where it is not too large.
+fn completed(
+    alloc: Global,
+    found: &mut Found,
+    around: &Around<'_>,
+    at: Pos,
+    number: u32,
+    layout: StructLayout,
+) -> Result<Option<CType>, Memory>
+    requires { is_alignment layout.alignment ≡ true }
+    ensures { Walks (spec.completed at number layout) around.now found.old result found.new }
+{
+    if layout.size > MOST_BYTES {
+        return found.tell(around, FaultKind::TooLarge, at);
+    }
+    found.state.structs.set(number, layout);
+    Ok(Some(plain(alloc, Base::Struct(number))))
+}

@@ -1,0 +1,7 @@
+pub mod Shapes
+pub mod Qualifiers
+pub mod Compatibility
+pub mod Constants
+pub mod Values
+pub mod Operators
+pub mod Pointers

@@ -1,0 +1,4 @@
+//! Types and conversions, with what C11 says of each.
+
+mod conversions;
+mod types;
