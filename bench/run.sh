@@ -1,26 +1,17 @@
 #!/bin/sh
-# Times the runner beside qemu-riscv32 on the same loops of 10^9 instructions: bench/run.sh [RUNNER]
+# Times the runner beside qemu-riscv32 on the same loops of 10^9 instructions: bench/run.sh [PROGRAM]
 #
-# RUNNER is the built program of crates/ccai_bench, called as `RUNNER run IMAGE STEPS`; it is the machine of
-# `ccai run` with a limit of its own on the steps. Each loop is run RUNS times, and the least time counts.
+# The program is called as `PROGRAM run IMAGE STEPS`; it is the machine of `ccai run` with a limit of its own on the steps.
+# Each loop is run RUNS times, and the least time counts.
 set -eu
-here=$(cd "$(dirname "$0")" && pwd)
-runner=${1:-$here/../crates/ccai_bench/out/ccai_bench}
-runs=${RUNS:-3}
-
 for tool in qemu-riscv32 riscv64-unknown-elf-gcc riscv64-unknown-elf-objcopy python3; do
     if ! command -v "$tool" >/dev/null; then
         echo "skipped: $tool is not installed"
         exit 0
     fi
 done
-if [ ! -x "$runner" ]; then
-    echo "skipped: $runner is not built (rt run in crates/ccai_bench builds it)"
-    exit 0
-fi
-
-work=$(mktemp -d)
-trap 'rm -rf "$work"' EXIT
+. "$(dirname "$0")/common.sh"
+runs=${RUNS:-3}
 
 # build NAME SOURCE EXIT TURNS: an ELF of a source
 build() {
@@ -64,7 +55,7 @@ for loop in alu mem; do
     image "$loop" "$loop" "$turns"
     set -- $(least qemu-riscv32 "$work/$loop.linux")
     theirs=$1 their_status=$2
-    set -- $(least "$runner" run "$work/$loop.image" "$steps")
+    set -- $(least "$program" run "$work/$loop.image" "$steps")
     ours=$1 our_status=$2
     if [ "$our_status" != "$their_status" ]; then
         echo "$loop: status $our_status, and $their_status of qemu-riscv32"
@@ -77,5 +68,5 @@ print(f'$loop: {n} instructions, {ours:.2f} s ({n / ours / 1e6:.0f} million a se
 done
 
 image big exit 1 $((1 << 24))
-set -- $(least "$runner" run "$work/big.image" "$steps")
+set -- $(least "$program" run "$work/big.image" "$steps")
 echo "load: 2^24 words in $1 s, status $2"

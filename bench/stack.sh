@@ -1,0 +1,6 @@
+#!/bin/sh
+# Finds the stack that the parser of units takes for sources that nest as deep as they may: bench/stack.sh [PROGRAM]
+set -eu
+. "$(dirname "$0")/common.sh"
+
+python3 "$here/stack.py" "$program"
