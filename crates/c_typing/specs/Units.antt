@@ -21,11 +21,11 @@ use Rattle.c_tree.specs.Spelling.Units.{definition_spelling}
 use Rattle.c_typing.specs.Faults.{Fault, first_of}
 use Rattle.c_typing.specs.Types.{void, Shape, FunctionOf, shape, is_struct}
 use Rattle.c_typing.specs.Conversions.{scalar_of}
-use Rattle.c_typing.specs.Scopes.{Name, Linked, Unknown, Around, State, Said, Walk, give, unasked, ◌>>=◌, asked, both_asked, beside, fault_if, unready_if, here, change, closed, latest, declaring, own_meaning, number_in}
+use Rattle.c_typing.specs.Scopes.{Name, Linked, Unknown, Around, State, Said, Walk, give, unasked, ◌>>=◌, asked, both_asked, beside, fault_if, unless, unready_if, here, change, closed, latest, declaring, own_meaning, number_in}
 use Rattle.c_typing.specs.Declarators.{Parameter, Part, Listing, Declaring, Specified, Basis, derive, name_place, first_token, specifiers_row}
 use Rattle.c_typing.specs.Expressions.{is_library}
 use Rattle.c_typing.specs.Trees.{specifier_typing, declarator_typing}
-use Rattle.c_typing.specs.Declarations.{allows_untyped_linked, is_defined, FunctionNames, Declared, declared_of, object_of, static_object, composed, linked_faults, main, basis_type, name_of, declaration_row, defined_objects}
+use Rattle.c_typing.specs.Declarations.{allows_untyped_linked, is_defined, FunctionNames, Declared, declared_of, object_of, static_object, composed, linked_faults, main, basis_type, is_typedef, name_of, declaration_row, defined_objects}
 use Rattle.c_typing.specs.OfStatements.{Blocked, is_addressed, function_names, count_items, items_row, owning}
 use Rattle.c_typing.specs.Statements.{block_typing}
 
@@ -136,9 +136,13 @@ defined_of d = record {
   tokens = length (definition_spelling d);
 }
 
+-- a definition has no storage word but `extern` and `static` (6.9.1p4)
+abbrev pub defining_basis : Pos → Basis → Walk Basis
+defining_basis at b = unless (is_typedef b.storage) kind.BadSpecifier at (give b)
+
 abbrev pub definition_row : Defined → Walk TFunction
 definition_row d =
-    specifiers_row false d.specifiers >>= λ b. here (λ c s.
+    specifiers_row false d.specifiers >>= λ b. asked b (defining_basis (first_token d.specifiers)) >>= λ b. here (λ c s.
     in_function (length s.names) (length s.tags) (header (name_place d.declaring.name (first_token d.specifiers)) b d.declaring) >>=
     defined_if d.tokens d.body d.declaring.name s)
 

@@ -23,7 +23,7 @@ use Rattle.c_typing.specs.OfStatements.{Blocked, function_names, count_items}
 use Rattle.c_typing.specs.OfStatements as statements
 use Rattle.c_typing.specs.Units as typing
 use Rattle.c_typing.specs.Units.{Defined, Outer, Declares, Defines, in_function, leaving, entered, named_outside, parameters_of, result_of_shape, body_row, function_made}
-use Rattle.c_typing_laws.specs.Scopes.{IsKnown, IsMeantPair, IfGiven, Answers, Any, gives, follows, both, chain, pair, besides, sees, turns, changes, unready, all_take, all_drop, all_append}
+use Rattle.c_typing_laws.specs.Scopes.{IsKnown, IsMeantPair, IfGiven, Answers, Any, gives, follows, asks, both, chain, pair, besides, sees, turns, changes, unready, all_take, all_drop, all_append, walks}
 use Rattle.c_typing_laws.specs.Declarators.{Derives, IsSpecific, mapped, specifiers_row}
 use Rattle.c_typing_laws.specs.Declarators as declarators
 use Rattle.c_typing_laws.specs.Declarations as declarations
@@ -98,18 +98,29 @@ defined_if tokens items (Some id) old (Some h) n g p = defined_as tokens items i
 defined_if tokens items (Some id) old None n g p = absurd g
 defined_if tokens items None old h n g p = absurd n
 
-definition_row : (d : Defined) → DefinesWell d → Answers Any (typing.definition_row d)
-definition_row d p =
-    follows (λ b. here (λ c s.
+defining_basis : (at : Pos) (b : Basis) → Answers Any (typing.defining_basis at b)
+defining_basis at b = search walks
+
+-- what follows the specifiers
+abbrev behind_specifiers : Defined → Option Basis → Walk TFunction
+behind_specifiers d b =
+    here (λ c s.
     in_function (length s.names) (length s.tags) (typing.header (name_place d.declaring.name (first_token d.specifiers)) b d.declaring) >>=
-    typing.defined_if d.tokens d.body d.declaring.name s))
-    (specifiers_row false d.specifiers p.specifiers)
-    (λ b g. sees (λ c s.
+    typing.defined_if d.tokens d.body d.declaring.name s)
+
+definition_behind : (d : Defined) (b : Option Basis) → DefinesWell d → IfGiven Any b → Answers Any (behind_specifiers d b)
+definition_behind d b p g =
+    sees (λ c s.
     in_function (length s.names) (length s.tags) (typing.header (name_place d.declaring.name (first_token d.specifiers)) b d.declaring) >>=
     typing.defined_if d.tokens d.body d.declaring.name s)
     (λ c s k. follows (typing.defined_if d.tokens d.body d.declaring.name s)
     (turns (λ c. record c { at_file_level = false; names_from = length s.names; tags_from = length s.tags }) (header (name_place d.declaring.name (first_token d.specifiers)) b d.declaring g p.derives))
-    (λ h l. defined_if d.tokens d.body d.declaring.name s h p.named l p.body)))
+    (λ h l. defined_if d.tokens d.body d.declaring.name s h p.named l p.body))
+
+definition_row : (d : Defined) → DefinesWell d → Answers Any (typing.definition_row d)
+definition_row d p =
+    follows (λ b. asked b (typing.defining_basis (first_token d.specifiers)) >>= behind_specifiers d) (specifiers_row false d.specifiers p.specifiers)
+    (λ b g. follows (behind_specifiers d) (asks b g (λ b a. defining_basis (first_token d.specifiers) b)) (λ b g. definition_behind d b p g))
 
 -- ---- units
 

@@ -145,8 +145,12 @@ pub record UnitsTyped : Type 0 where
       ∷ Defines (main_from 54 (returns 69 (constant 76 0) ∷ [])) ∷ [])) ≡ Some (fault kind.StructValue (at 40))
   -- `int x;int x;int main(void){return x;}`: two tentative definitions
   pub tentative : first_in (unit 38 (Declares (int_object 5 120) ∷ Declares (int_object 11 120) ∷ Defines (main_from 13 (returns 28 (name 35 120) ∷ [])) ∷ [])) ≡ None
-  -- `typedef int f(void){return 0;}int main(void){f x;return 0;}`: the name of a function names no type
-  pub no_type : first_in (unit 60 (Defines (defines (typed_specifier (Specifier-F.Storage storage.Typedef (at 1)) ∷ words 9 (word.Int ∷ [])) (named 13 (102 ∷ []) (void_list 14 ∷ []))
+  -- `typedef int f(void){return 0;}int main(void){return 0;}`
+  pub defined_type : first_in (unit 54 (Defines (defines (typed_specifier (Specifier-F.Storage storage.Typedef (at 1)) ∷ words 9 (word.Int ∷ [])) (named 13 (102 ∷ []) (void_list 14 ∷ []))
+      (returns 21 (constant 28 0) ∷ []))
+      ∷ Defines (main_from 31 (returns 46 (constant 53 0) ∷ [])) ∷ [])) ≡ Some (fault kind.BadSpecifier (at 1))
+  -- `int f(void){return 0;}int main(void){f x;return 0;}`, were `f` read as a type: the name of a function names none
+  pub no_type : first_in (unit 60 (Defines (defines (words 9 (word.Int ∷ [])) (named 13 (102 ∷ []) (void_list 14 ∷ []))
       (returns 21 (constant 28 0) ∷ []))
       ∷ Defines (main_from 31 (item_of (declares (typed_specifier (Specifier-F.TypedefName (id 46 102)) ∷ []) (named 48 (120 ∷ []) []) None) ∷ returns 50 (constant 57 0) ∷ [])) ∷ [])) ≡
       Some (fault kind.Undeclared (at 46))
@@ -173,6 +177,7 @@ units_typed = record {
   structure_passed = refl;
   structure_parameter = refl;
   tentative = refl;
+  defined_type = refl;
   no_type = refl;
   other_putchar = refl;
 }
