@@ -1,0 +1,5 @@
+pub mod Walked
+pub mod InTurn
+pub mod Names
+pub mod Started
+pub mod Declared

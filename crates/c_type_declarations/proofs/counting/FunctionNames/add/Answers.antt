@@ -1,0 +1,9 @@
+use Rattle.c_type_declarations.specs.Counting.{names_in}
+use Rattle.c_type_declarations.proofs.Names.{hides, where_ok}
+use Rattle.c_type_declarations.proofs.counting.FunctionNames.add.Goals as goal
+
+pub returns : goal.returns
+returns c =
+    where_ok c.insert.result
+    (hides c.args.self.now.since c.insert.new.self (names_in c.args.self.now.visible.now) c.args.name c.args.is_function)
+    c.insert.ensures.hides

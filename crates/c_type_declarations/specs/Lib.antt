@@ -1,0 +1,5 @@
+pub mod Counting
+pub mod Linkage
+pub mod Starting
+pub mod Slots
+pub mod Rows

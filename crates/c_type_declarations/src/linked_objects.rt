@@ -1,0 +1,136 @@
+//! Declarations with linkage: functions, file-level objects and externs (C11 6.2.2p4, p5, 6.9.2).
+
+ghost use Rattle.std.specs.Prelude.{None, Some, false};
+ghost use Rattle.std.specs.Option.{option_copied};
+ghost use Rattle.c_typing.specs.Declarations as spec;
+ghost use Rattle.c_typing.specs.Initialisers.{initialiser_typing};
+ghost use Rattle.c_type_walk.specs.Walks.{Walks};
+ghost use Rattle.c_type_declarations.specs.Starting.{starting};
+
+use crate::linkage::{linked, linked_faults};
+use crate::objects::{counted, sized_row};
+use crate::second_declarations::composed;
+use crate::starts::{fillable_row, without_start};
+use c_tree::typed::{CType, TStmt};
+use c_tree::{FaultKind, Identifier, Initialiser};
+use c_type_declarators::complete_row;
+use c_type_initialisers::{fill, starts_row};
+use c_type_rules::{copied, is_void};
+use c_type_walk::{Around, Found, copied_text};
+use c_typing::Filled;
+use std::alloc::Global;
+use word_ops::{Items, Memory};
+
+/// A declaration of a function (C11 6.7.6.3).
+///
+/// # Errors
+///
+/// `Memory` where memory is wanting.
+pub(crate) fn function_row(
+    alloc: Global,
+    found: &mut Found,
+    around: &Around<'_>,
+    name: &Identifier,
+    ctype: CType,
+    start: Option<&Initialiser>,
+) -> Result<Option<Items<TStmt>>, Memory>
+    ensures { Walks (spec.function_row name.now ctype (starting (option_copied start.entry))) around.now found.old result found.new }
+{
+    linked_faults(alloc, found, around, name, false, &ctype)?;
+    linked(alloc, found, &name.text, false, ctype)?;
+    without_start(alloc, found, around, start)
+}
+
+/// A file-level object, or an extern.
+///
+/// # Errors
+///
+/// `Memory` where memory is wanting.
+pub(crate) fn linked_row(
+    alloc: Global,
+    found: &mut Found,
+    around: &Around<'_>,
+    name: &Identifier,
+    is_extern: bool,
+    ctype: CType,
+    start: Option<&Initialiser>,
+) -> Result<Option<Items<TStmt>>, Memory>
+    ensures { Walks (spec.linked_row name.now is_extern ctype (starting (option_copied start.entry))) around.now found.old result found.new }
+{
+    let told = composed(alloc, copied(alloc, &ctype)?, found.linkage(&name.text))?;
+    linked_faults(alloc, found, around, name, start.is_some(), &ctype)?;
+    linked(alloc, found, &name.text, start.is_some(), ctype)?;
+    match start {
+        Some(start) if around.at_file_level => { started(alloc, found, around, name, told, start) }
+        Some(_) => without_start(alloc, found, around, start),
+        None => unstarted(alloc, found, around, name, is_extern, told),
+    }
+}
+
+/// Without an initialiser: an extern object may be incomplete, but not of type `void` (C11 6.9.2p2, p3).
+fn unstarted(
+    alloc: Global,
+    found: &mut Found,
+    around: &Around<'_>,
+    name: &Identifier,
+    is_extern: bool,
+    ctype: CType,
+) -> Result<Option<Items<TStmt>>, Memory>
+    ensures { Walks (spec.linked_start name.now is_extern None ctype) around.now found.old result found.new }
+{
+    if is_extern {
+        if is_void(&ctype) {
+            return found.tell(around, FaultKind::Incomplete, name.place);
+        }
+        return Ok(Some(Items::new(alloc)));
+    }
+    let Some(_) = complete_row(found, around, name.place, ctype)? else {
+        return Ok(None);
+    };
+    Ok(Some(Items::new(alloc)))
+}
+
+/// With an initialiser, which defines the object (C11 6.9.2p1).
+fn started(
+    alloc: Global,
+    found: &mut Found,
+    around: &Around<'_>,
+    name: &Identifier,
+    ctype: CType,
+    start: &Initialiser,
+) -> Result<Option<Items<TStmt>>, Memory>
+    ensures { Walks (spec.linked_start name.now false (Some (initialiser_typing start.now)) ctype) around.now found.old result found.new }
+{
+    let Some(ctype) = fillable_row(found, around, name.place, ctype)? else {
+        return Ok(None);
+    };
+    let Some(filled) = fill(alloc, found, around, start, 0, copied(alloc, &ctype)?)? else {
+        return Ok(None);
+    };
+    linked_filled(alloc, found, around, name, ctype, filled)
+}
+
+/// What an initialiser fills, and what stands in it as the program begins.
+fn linked_filled(
+    alloc: Global,
+    found: &mut Found,
+    around: &Around<'_>,
+    name: &Identifier,
+    ctype: CType,
+    filled: Filled,
+) -> Result<Option<Items<TStmt>>, Memory>
+    ensures { Walks (spec.linked_filled name.now ctype filled) around.now found.old result found.new }
+{
+    let ctype = counted(alloc, ctype, filled.count)?;
+    let sized = sized_row(found, around, name.place, copied(alloc, &ctype)?)?;
+    linked(alloc, found, &name.text, true, ctype)?;
+    let parts = starts_row(alloc, found, around, filled.leaves)?;
+    let (Some(_), Some(parts)) = (sized, parts) else {
+        return Ok(None);
+    };
+    found
+        .state
+        .starts
+        .insert(copied_text(alloc, &name.text)?, parts)?;
+    Ok(Some(Items::new(alloc)))
+}

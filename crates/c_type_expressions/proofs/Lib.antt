@@ -1,0 +1,8 @@
+pub mod Ends
+pub mod Values
+pub mod Combined
+pub mod Settled
+pub mod Arguments
+pub mod Called
+pub mod Linked
+pub mod Targets

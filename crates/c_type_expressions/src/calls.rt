@@ -1,0 +1,275 @@
+//! Calls (C11 6.5.2.2), and those of the library (C11 7.21.7.6, 7.21.7.8, 7.22.4.4).
+
+ghost use Rattle.std.specs.Prelude.{◌≡◌, ◌++◌, false, List, Some, IfOk, OnOk};
+ghost use Rattle.c_typing.specs.Types as types;
+ghost use Rattle.c_typing.specs.Scopes as scopes;
+ghost use Rattle.c_typing.specs.Expressions as spec;
+ghost use Rattle.c_type_walk.specs.Walks.{Walks};
+ghost use Rattle.c_type_expressions.specs.Calls.{answered, both_given, made};
+
+use crate::given::given_row;
+use c_tree::typed::{Base, CType, TExpr};
+use c_tree::{FaultKind, Identifier, Pos};
+use c_type_rules::{TypeShape, copied, is_struct, is_void, plain, shape, unqualified, value};
+use c_type_walk::{Around, Found, number_in};
+use c_typing::{Meaning, Operand};
+use std::alloc::Global;
+use word_ops::{Boxed, Items, Memory, Text};
+
+/// An argument of a call: its first token, and what it is, where no fault stands in it.
+pub type Argument = (Pos, Option<Operand>);
+
+/// A call of what this name stands for (C11 6.5.2.2).
+///
+/// # Errors
+///
+/// `Memory` where memory is wanting.
+pub fn call_row(
+    alloc: Global,
+    found: &mut Found,
+    around: &Around<'_>,
+    name: &Identifier,
+    place: Pos,
+    arguments: Vec<Argument>,
+) -> Result<Option<Operand>, Memory>
+    ensures { Walks (spec.call_row name.now place arguments.items) around.now found.old result found.new }
+{
+    match found.meaning(&name.text) {
+        None => found.tell(around, FaultKind::Undeclared, name.place),
+        Some(Meaning::Linked(ctype)) => {
+            let ctype = copied(alloc, ctype)?;
+            linked_call(alloc, found, around, name, place, arguments, &ctype)
+        }
+        Some(Meaning::Unknown) => Ok(None),
+        Some(_) => found.tell(around, FaultKind::BadCall, place),
+    }
+}
+
+/// A call of something with linkage. Arguments of the wrong number are asked as far as there are parameters.
+fn linked_call(
+    alloc: Global,
+    found: &mut Found,
+    around: &Around<'_>,
+    name: &Identifier,
+    place: Pos,
+    arguments: Vec<Argument>,
+    ctype: &CType,
+) -> Result<Option<Operand>, Memory>
+    ensures { Walks (spec.linked_call name.now place arguments.items (types.shape ctype.now)) around.now found.old result found.new }
+{
+    let TypeShape::FunctionOf(parameters, given) = shape(ctype) else {
+        return object_called(found, around, name, place);
+    };
+    let definition = number_in(around.functions.as_slice(), &name.text)?;
+    tell_no_body(found, name, definition)?;
+    let given = given.copied(alloc)?;
+    function_call(
+        alloc, found, around, name, place, arguments, parameters, given, definition,
+    )
+}
+
+/// A call of a function with parameters of these types, which gives a value of the type `given`; `definition` is its number.
+fn function_call(
+    alloc: Global,
+    found: &mut Found,
+    around: &Around<'_>,
+    name: &Identifier,
+    place: Pos,
+    arguments: Vec<Argument>,
+    parameters: &[CType],
+    given: CType,
+    definition: Option<u32>,
+) -> Result<Option<Operand>, Memory>
+    requires { definition ≡ scopes.number_in 0 around.now.functions.now name.now.text }
+    ensures { Walks (spec.function_call name.now place arguments.items parameters.now given) around.now found.old result found.new }
+{
+    let as_many = are_as_many(arguments.as_slice(), parameters);
+    found.tell_if(!as_many, FaultKind::BadCall, place)?;
+    found.unready_if(is_struct(&given), FaultKind::StructValue, place)?;
+    answered_call(
+        alloc, found, around, name, arguments, parameters, given, definition,
+    )
+}
+
+/// The same, where it has been told whether there are as many arguments as parameters.
+fn answered_call(
+    alloc: Global,
+    found: &mut Found,
+    around: &Around<'_>,
+    name: &Identifier,
+    arguments: Vec<Argument>,
+    parameters: &[CType],
+    given: CType,
+    definition: Option<u32>,
+) -> Result<Option<Operand>, Memory>
+    requires { definition ≡ scopes.number_in 0 around.now.functions.now name.now.text }
+    ensures { Walks (answered name.now arguments.items parameters.now given) around.now found.old result found.new }
+{
+    let as_many = are_as_many(arguments.as_slice(), parameters);
+    let values = arguments_row(alloc, found, around, arguments, parameters)?;
+    if !as_many {
+        return Ok(None);
+    }
+    let Some(values) = values else {
+        return Ok(None);
+    };
+    let call = call_made(alloc, name, given, values, definition)?;
+    Ok(call)
+}
+
+/// Whether there are as many arguments as parameters (C11 6.5.2.2p2).
+fn are_as_many(arguments: &[Argument], parameters: &[CType]) -> bool
+    ensures { result ≡ spec.same_length arguments.now parameters.now }
+{
+    arguments.len() == parameters.len()
+}
+
+/// A call of an object with linkage, which is no function.
+fn object_called(
+    found: &mut Found,
+    around: &Around<'_>,
+    name: &Identifier,
+    place: Pos,
+) -> Result<Option<Operand>, Memory>
+    ensures { (t : types.Shape) → types.is_function_shape t ≡ false → (args : List spec.Argument) → Walks (spec.linked_call name.now place args t) around.now found.old result found.new }
+{
+    let definition = number_in(around.objects.as_slice(), &name.text)?;
+    tell_no_body(found, name, definition)?;
+    found.tell(around, FaultKind::BadCall, place)
+}
+
+/// Tells of a name with linkage of which the unit has no definition (C11 6.9p5); those of the library have theirs elsewhere.
+fn tell_no_body(found: &mut Found, name: &Identifier, definition: Option<u32>) -> Result<(), Memory>
+    ensures faults { OnOk result (found.new.faults ≡ found.old.faults ++ spec.no_body name.now definition) }
+    ensures state { found.new.state ≡ found.old.state }
+{
+    let is_wanting = definition.is_none() && !is_library(&name.text);
+    found.tell_if(is_wanting, FaultKind::NoBody, name.place)
+}
+
+/// Arguments as the parameters of these types are given them (C11 6.5.2.2p2), as far as there are both.
+fn arguments_row(
+    alloc: Global,
+    found: &mut Found,
+    around: &Around<'_>,
+    arguments: Vec<Argument>,
+    parameters: &[CType],
+) -> Result<Option<Items<TExpr>>, Memory>
+    ensures { Walks (spec.arguments_row arguments.items parameters.now) around.now found.old result found.new }
+{
+    let mut given = Some(Items::new(alloc));
+    let mut left = parameters;
+    for (place, argument) in arguments {
+        let Some((ctype, behind)) = left.split_first() else {
+            return Ok(given);
+        };
+        let value = argument_row(alloc, found, around, place, ctype, argument)?;
+        given = with_one_more(given, value)?;
+        left = behind;
+    }
+    Ok(given)
+}
+
+/// An argument as the parameter of this type is given it; nothing is asked of one with a fault in it.
+fn argument_row(
+    alloc: Global,
+    found: &mut Found,
+    around: &Around<'_>,
+    place: Pos,
+    ctype: &CType,
+    argument: Option<Operand>,
+) -> Result<Option<TExpr>, Memory>
+    ensures { Walks (scopes.asked argument (spec.given_row place ctype.now)) around.now found.old result found.new }
+{
+    let Some(argument) = argument else {
+        return Ok(None);
+    };
+    given_row(alloc, found, around, place, ctype, argument)
+}
+
+/// The list with a value more, where each gives something.
+fn with_one_more(
+    list: Option<Items<TExpr>>,
+    value: Option<TExpr>,
+) -> Result<Option<Items<TExpr>>, Memory>
+    ensures { IfOk result (λ r. r ≡ both_given list value) }
+{
+    let (Some(mut list), Some(value)) = (list, value) else {
+        return Ok(None);
+    };
+    list.push(value)?;
+    Ok(Some(list))
+}
+
+/// The value of a call with these arguments, as many as there are parameters.
+fn call_made(
+    alloc: Global,
+    name: &Identifier,
+    given: CType,
+    arguments: Items<TExpr>,
+    definition: Option<u32>,
+) -> Result<Option<Operand>, Memory>
+    ensures { IfOk result (λ o. o ≡ made name.now given arguments definition) }
+{
+    match definition {
+        Some(function) => Ok(Some(call_of(alloc, given, function, arguments)?)),
+        None => {
+            if is_library(&name.text) {
+                Ok(Some(library_call(alloc, &name.text, arguments)?))
+            } else {
+                Ok(Some(call_of(alloc, given, 0, arguments)?))
+            }
+        }
+    }
+}
+
+/// A call of a function of the unit (C11 6.5.2.2p5).
+fn call_of(
+    alloc: Global,
+    given: CType,
+    function: u32,
+    arguments: Items<TExpr>,
+) -> Result<Operand, Memory>
+    ensures { IfOk result (λ o. o ≡ spec.call_of given function arguments) }
+{
+    if is_void(&given) {
+        let void = plain(alloc, Base::Void);
+        let base = TExpr::DroppedCall(void, function, arguments);
+        return Ok(value(alloc, plain(alloc, Base::Void), base));
+    }
+    let ctype = unqualified(given);
+    let base = TExpr::Call(copied(alloc, &ctype)?, function, arguments);
+    Ok(value(alloc, ctype, base))
+}
+
+/// A call of the library: `getchar` has no argument, and `putchar` and `exit` have one.
+fn library_call(alloc: Global, name: &Text, mut arguments: Items<TExpr>) -> Result<Operand, Memory>
+    ensures { IfOk result (λ o. Some o ≡ spec.library_call name.now arguments) }
+{
+    if arguments.is_empty() {
+        let base = TExpr::GetChar(plain(alloc, Base::Int));
+        return Ok(value(alloc, plain(alloc, Base::Int), base));
+    }
+    let argument = Boxed::new(alloc, arguments.remove(0))?;
+    if name.as_slice() == PUTCHAR {
+        let base = TExpr::PutChar(plain(alloc, Base::Int), argument);
+        return Ok(value(alloc, plain(alloc, Base::Int), base));
+    }
+    let base = TExpr::Exit(plain(alloc, Base::Void), argument);
+    Ok(value(alloc, plain(alloc, Base::Void), base))
+}
+
+/// The names of functions of the library (C11 7.21.7.6, 7.21.7.8, 7.22.4.4).
+const GETCHAR: &[u8] = b"getchar";
+
+const PUTCHAR: &[u8] = b"putchar";
+
+const EXIT: &[u8] = b"exit";
+
+/// Whether a name is that of a function of the library.
+pub fn is_library(name: &Text) -> bool
+    ensures { result ≡ spec.is_library name.now }
+{
+    let name = name.as_slice();
+    name == GETCHAR || (name == PUTCHAR || name == EXIT)
+}

@@ -1,0 +1,52 @@
+//! Casts (C11 6.5.4).
+
+ghost use Rattle.std.specs.Prelude.{◌≡◌};
+ghost use Rattle.c_typing.specs.Expressions as spec;
+ghost use Rattle.c_type_walk.specs.Walks.{Walks};
+
+use crate::refusals::refused;
+use c_tree::typed::CType;
+use c_tree::{FaultKind, Pos};
+use c_type_rules::{
+    converted, dropping, is_bool, is_integer, is_null_constant, is_pointer, is_void, unqualified,
+    valued,
+};
+use c_type_walk::{Around, Found};
+use c_typing::Operand;
+use std::alloc::Global;
+use word_ops::Memory;
+
+/// A cast to this type; one to `void` drops the value (C11 6.5.4p2, p4, 6.3.2.2).
+///
+/// # Errors
+///
+/// `Memory` where memory is wanting.
+pub fn cast_row(
+    alloc: Global,
+    found: &mut Found,
+    around: &Around<'_>,
+    place: Pos,
+    ctype: CType,
+    operand: Operand,
+) -> Result<Option<Operand>, Memory>
+    ensures { Walks (spec.cast_row place ctype operand) around.now found.old result found.new }
+{
+    if is_void(&ctype) {
+        return Ok(Some(dropping(alloc, operand)?));
+    }
+    let value = valued(alloc, operand)?;
+    if !casts(&ctype, &value) {
+        return refused(found, around, FaultKind::Mismatch, place, (ctype, value));
+    }
+    Ok(Some(converted(alloc, unqualified(ctype), value)?))
+}
+
+/// Whether a value may be cast to a type: an integer to an integer type, a pointer or a null pointer constant to a pointer
+/// type, and a pointer to `_Bool`.
+fn casts(ctype: &CType, value: &Operand) -> bool
+    ensures { result ≡ spec.casts ctype.now value.now }
+{
+    (is_integer(ctype) && is_integer(&value.ctype))
+        || ((is_pointer(ctype) && (is_pointer(&value.ctype) || is_null_constant(value)))
+            || (is_bool(ctype) && is_pointer(&value.ctype)))
+}

@@ -1,0 +1,50 @@
+//! Values given to objects: initialisers, arguments, and what `return` gives (C11 6.5.16.1p1).
+
+ghost use Rattle.std.specs.Prelude.{◌≡◌};
+ghost use Rattle.c_typing.specs.declared.operand.Operand.{Operand};
+ghost use Rattle.c_typing.specs.Expressions as spec;
+ghost use Rattle.c_type_walk.specs.Walks.{Walks};
+
+use crate::refusals::refused;
+use c_tree::typed::{CType, TExpr};
+use c_tree::{FaultKind, Pos};
+use c_type_rules::{
+    alike, converted, copied, is_assignable, is_struct, tree_of, unqualified, valued,
+};
+use c_type_walk::{Around, Found};
+use c_typing::Operand;
+use std::alloc::Global;
+use word_ops::Memory;
+
+/// The value that an object of this type is given, converted to it (C11 6.5.16.1p1, p2).
+///
+/// # Errors
+///
+/// `Memory` where memory is wanting.
+pub fn given_row(
+    alloc: Global,
+    found: &mut Found,
+    around: &Around<'_>,
+    place: Pos,
+    ctype: &CType,
+    operand: Operand,
+) -> Result<Option<TExpr>, Memory>
+    ensures { Walks (spec.given_row place ctype.now operand) around.now found.old result found.new }
+{
+    let value = valued(alloc, operand)?;
+    if is_struct_given(ctype, &value.ctype) {
+        return refused(found, around, FaultKind::StructValue, place, value);
+    }
+    if !is_assignable(ctype, &value) {
+        return refused(found, around, FaultKind::Mismatch, place, value);
+    }
+    let ctype = unqualified(copied(alloc, ctype)?);
+    Ok(Some(tree_of(alloc, converted(alloc, ctype, value)?)?))
+}
+
+/// Whether an object of structure type is given a value of the same one, which this profile does not give yet.
+pub(crate) fn is_struct_given(ctype: &CType, from: &CType) -> bool
+    ensures { (o : Operand) → o.ctype ≡ from.now → result ≡ spec.is_struct_given ctype.now o }
+{
+    is_struct(ctype) && alike(ctype, from)
+}

@@ -1,0 +1,88 @@
+//! String literals (C11 6.4.5p6).
+
+ghost use Rattle.std.specs.Prelude.{◌≡◌, ◌<◌, ◌^◌, ◌+◌, IfOk, length};
+ghost use Rattle.c_typing.specs.Expressions as spec;
+ghost use Rattle.c_type_walk.specs.Walks.{Walks};
+
+use crate::sizes::LARGEST;
+use c_tree::typed::{Base, CType, Derived, Object, Primary, StaticObject, StaticPart, TExpr};
+use c_tree::{FaultKind, Pos};
+use c_type_rules::{derived_from, operand, plain};
+use c_type_walk::{Around, Found};
+use c_typing::{Form, Operand};
+use std::alloc::Global;
+use word_ops::{Items, Memory, Text};
+
+/// A string literal, by the bytes of its elements without the zero byte at its end: an array of `char`, which stands among
+/// the static objects of the unit (C11 6.4.5p6).
+///
+/// # Errors
+///
+/// `Memory` where memory is wanting, and where no number below 2^32 is left for the object.
+pub fn string_row(
+    alloc: Global,
+    found: &mut Found,
+    around: &Around<'_>,
+    place: Pos,
+    bytes: Text,
+) -> Result<Option<Operand>, Memory>
+    ensures { Walks (spec.string_row place bytes) around.now found.old result found.new }
+{
+    if bytes.as_slice().len() as u64 >= LARGEST {
+        return found.tell(around, FaultKind::TooLarge, place);
+    }
+    let number = next_static(found, around)?;
+    let base = TExpr::Primary(string_type(alloc, &bytes)?, Primary::Static(number));
+    let operand = operand(alloc, Form::Place, string_type(alloc, &bytes)?, base);
+    found.state.statics.push(string_object(alloc, bytes)?)?;
+    Ok(Some(operand))
+}
+
+/// The number of the next static object: those of the file stand first, and string literals and the static objects of
+/// functions behind them.
+fn next_static(found: &Found, around: &Around<'_>) -> Result<u32, Memory>
+    ensures { IfOk result (λ n. n ≡ length around.now.objects.now + length found.now.state.statics) }
+{
+    let Some(number) = around.objects.len().checked_add(found.state.statics.len()) else {
+        return Err(Memory);
+    };
+    u32::try_from(number).map_err(|_| Memory)
+}
+
+/// An array of `char` with an element more than the string has bytes.
+fn string_type(alloc: Global, bytes: &Text) -> Result<CType, Memory>
+    requires { length bytes.now < 2 ^ 24 }
+    ensures { IfOk result (λ t. t ≡ spec.string_type bytes.now) }
+{
+    let count = bytes.as_slice().len() as u64 + 1;
+    derived_from(plain(alloc, Base::Char), Derived::Array(Some(count)))
+}
+
+/// The object of a string literal.
+fn string_object(alloc: Global, bytes: Text) -> Result<StaticObject, Memory>
+    requires { length bytes < 2 ^ 24 }
+    ensures { IfOk result (λ o. o ≡ spec.string_object bytes) }
+{
+    Ok(StaticObject {
+        object: Object {
+            ctype: string_type(alloc, &bytes)?,
+            scalar: None,
+            size: bytes.as_slice().len() as u32 + 1,
+            alignment: 1,
+            constant: true,
+            addressed: true,
+        },
+        parts: bytes_at_start(alloc, bytes)?,
+    })
+}
+
+/// The bytes with which an object begins, where there are any.
+fn bytes_at_start(alloc: Global, bytes: Text) -> Result<Items<StaticPart>, Memory>
+    ensures { IfOk result (λ parts. parts ≡ spec.bytes_at 0 bytes) }
+{
+    let mut parts = Items::new(alloc);
+    if !bytes.as_slice().is_empty() {
+        parts.push(StaticPart::Bytes(0, bytes))?;
+    }
+    Ok(parts)
+}

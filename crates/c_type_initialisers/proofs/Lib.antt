@@ -1,0 +1,9 @@
+pub mod Rows
+pub mod Turned
+pub mod Depth
+pub mod Remains
+pub mod Thens
+pub mod Loops
+pub mod Typed
+pub mod Items
+pub mod Braced

@@ -1,0 +1,10 @@
+use Rattle.std.proofs.Common.{◌≡◌, length}
+use Rattle.c_type_initialisers.specs.Stacks.{stack}
+use Rattle.c_typing.specs.OfInitialisers as spec
+use Rattle.c_type_initialisers.proofs.frames.next_piece.Given as goal
+
+abbrev pub invariant-loop-frame : goal.invariant-loop-frame
+invariant-loop-frame l = spec.next_piece l.tags (stack l.frames) ≡ spec.next_piece l.tags (stack l.initial.frames)
+
+abbrev pub decreases-loop-frame : goal.decreases-loop-frame
+decreases-loop-frame l = length l.frames

@@ -1,0 +1,4 @@
+pub mod Stacks
+pub mod Steps
+pub mod Joined
+pub mod Braced

@@ -1,0 +1,12 @@
+pub mod After
+pub mod Arms
+pub mod Firsts
+pub mod Kept
+pub mod Loops
+pub mod Nodes
+pub mod Pops
+pub mod Prototypes
+pub mod Rounds
+pub mod Steps
+pub mod Turns
+pub mod Begins

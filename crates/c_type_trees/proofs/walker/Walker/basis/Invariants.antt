@@ -1,0 +1,12 @@
+use Rattle.std.proofs.Common.{◌≡◌, drop, map}
+use Rattle.c_typing.specs.Scopes.{◌>>=◌, asked}
+use Rattle.c_typing.specs.Declarators.{specifiers_row, read_specifiers, basis_of, first_token}
+use Rattle.c_typing.specs.Trees.{specifier_typing}
+use Rattle.c_type_declarators.specs.Specifiers.{parts_of}
+use Rattle.c_type_trees.proofs.After.{after}
+use Rattle.c_type_trees.proofs.walker.Walker.basis.Given as goal
+
+abbrev pub invariant-loop-one : goal.invariant-loop-one
+invariant-loop-one g l =
+    after (specifiers_row l.alone (map specifier_typing l.list)) l.around l.fn.found
+    ≡ after (read_specifiers l.alone (parts_of l.parts) (map specifier_typing (drop l.one-index l.list)) >>= λ r. asked r (basis_of (first_token (map specifier_typing l.list)))) l.around l.found

@@ -1,0 +1,29 @@
+use Rattle.std.proofs.Common.{◌∙◌, ap, sym, map}
+use Rattle.std.specs.Prelude.{Some}
+use Rattle.c_typing.specs.Scopes.{offer}
+use Rattle.c_typing.specs.Declarators.{enum_row}
+use Rattle.c_typing.specs.Trees.{enumerator_typing}
+use Rattle.c_type_trees.proofs.After.{after, done}
+use Rattle.c_type_trees.proofs.Kept.{all_turned}
+use Rattle.c_type_trees.proofs.Nodes.{enum_opened, enum_none}
+use Rattle.c_type_trees.proofs.Turns.{enumeration_left}
+use Rattle.c_type_trees.proofs.Rounds.{enumeration_round}
+use Rattle.c_type_trees.proofs.walker.Walker.enumeration.Goals as goal
+
+pub loop-one-init : goal.loop-one-init
+loop-one-init g c =
+    enum_opened c.args.tag.now (map enumerator_typing c.args.list.now) _ _ _ c.args.around.now _ _ c.as_ref.ensures.value c.in-Some.is c.in_ok-number.ensures
+
+pub returns-in_default : goal.returns-in_default
+returns-in_default g c =
+    enum_none c.args.tag.now (map enumerator_typing c.args.list.now) _ _ c.args.around.now _ _ c.as_ref.ensures.value c.in_default.is c.in_ok-number.ensures
+
+pub loop-one-preserved : goal.loop-one-preserved
+loop-one-preserved g c =
+    enumeration_round c.in-Some.number c.args.list.now c.loop-one.one-index c.one-item.result c.loop-one.next _ _ _ c.args.around.now _ _ c.loop-one-test.true c.one-item.is c.loop-one.invariant c.in_ok-value.ensures c.following_number-next.ensures
+
+pub returns : goal.returns
+returns g c =
+    done (enum_row c.args.tag.now (map enumerator_typing c.args.list.now)) c.args.around.now c.args.found.now c.loop-one.found (Some c.plain.result)
+    (all_turned enumerator_typing c.args.list.now c.loop-one.one-index (enumeration_left c.in-Some.number c.loop-one.next) _ c.args.around.now _ c.loop-one-test.false c.loop-one.invariant
+    ∙ ap (λ t. after (offer (Some t)) c.args.around.now c.loop-one.found) (sym c.plain.ensures))

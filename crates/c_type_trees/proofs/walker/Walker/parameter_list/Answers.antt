@@ -1,0 +1,10 @@
+use Rattle.std.proofs.Common.{map}
+use Rattle.c_typing.specs.OfTrees.{parameters_row}
+use Rattle.c_typing.specs.Trees.{parameter_typing}
+use Rattle.c_type_trees.specs.Lists.{listed}
+use Rattle.c_type_trees.proofs.Nodes.{listing_walked}
+use Rattle.c_type_trees.proofs.walker.Walker.parameter_list.Goals as goal
+
+pub returns : goal.returns
+returns g c =
+    listing_walked (listed c.args.defining (parameters_row 0 (map parameter_typing c.args.list.now))) _ _ c.args.around.now _ _ c.in_ok-all.ensures c.listing_if_any.ensures

@@ -1,0 +1,243 @@
+//! Lists of operators, from what the walks of their operands gave.
+
+ghost use Rattle.std.specs.Prelude.{◌≡◌, IfOk, map};
+ghost use Rattle.std.specs.Option.{option_map};
+ghost use Rattle.c_typing.specs.OfTrees as spec;
+ghost use Rattle.c_typing.specs.Scopes as scopes;
+ghost use Rattle.c_type_walk.specs.Walks.{Walks};
+ghost use Rattle.c_type_expressions.specs.Assignments.{assigned_of};
+ghost use Rattle.c_type_expressions.specs.Chains.{chain_of};
+ghost use Rattle.c_type_expressions.specs.Prefixes.{prefixing};
+ghost use Rattle.c_type_trees.specs.Lists as lists;
+ghost use Rattle.c_type_trees.specs.Sequences as sequences;
+
+use crate::operands::{prefix_if_both, truth_if_any};
+use c_tree::typed::TExpr;
+use c_tree::{Mark, Pos};
+use c_type_expressions::{
+    Assigned, Chain, Prefixing, all_of, any_of, assign_row, assigned_end, assigned_value,
+    chain_end, chain_value, comma_of, conditional_row,
+};
+use c_type_rules::{dropping, tree_of};
+use c_type_walk::{Around, Found};
+use c_typing::Operand;
+use std::alloc::Global;
+use word_ops::{Items, Memory};
+
+/// What stands to the left of `:` in a chain of `? :`.
+#[derive(Drop)]
+pub(crate) struct Choice {
+    /// the place of `?`
+    pub question: Pos,
+    /// the condition, where no fault stands in it
+    pub condition: Option<Operand>,
+    /// what is given where it holds
+    pub gives: Option<Operand>,
+}
+
+/// An assignment operator and what stands to its left.
+#[derive(Drop)]
+pub(crate) struct LeftSide {
+    /// the left side, where no fault stands in it
+    pub operand: Option<Operand>,
+    /// the operator
+    pub operator: Mark,
+}
+
+/// One more item, where there are items before it and it is one.
+pub(crate) fn joined<A: Drop>(
+    all: Option<Items<A>>,
+    one: Option<A>,
+) -> Result<Option<Items<A>>, Memory>
+    ensures { IfOk result (λ r. r ≡ lists.one_more all one) }
+{
+    let (Some(mut all), Some(one)) = (all, one) else {
+        return Ok(None);
+    };
+    all.push(one)?;
+    Ok(Some(all))
+}
+
+/// Prefixes before an operand: the one that stands next to it comes first (C11 6.5.3).
+pub(crate) fn prefixed_by(
+    alloc: Global,
+    found: &mut Found,
+    around: &Around<'_>,
+    mut run: Items<Option<Prefixing>>,
+    operand: Option<Operand>,
+) -> Result<Option<Operand>, Memory>
+    ensures { Walks (spec.prefixes_row (map (option_map prefixing) run) operand) around.now found.old result found.new }
+{
+    let mut value = operand;
+    while let Some(prefix) = run.pop() {
+        value = prefix_if_both(alloc, found, around, prefix, value)?;
+    }
+    Ok(value)
+}
+
+/// The same, where the prefixes are there.
+pub(crate) fn prefixed_if_any(
+    alloc: Global,
+    found: &mut Found,
+    around: &Around<'_>,
+    run: Option<Items<Option<Prefixing>>>,
+    operand: Option<Operand>,
+) -> Result<Option<Operand>, Memory>
+    ensures { Walks (scopes.asked (option_map (λ all. map (option_map prefixing) all) run) (λ all. spec.prefixes_row all operand)) around.now found.old result found.new }
+{
+    let Some(run) = run else {
+        return Ok(None);
+    };
+    prefixed_by(alloc, found, around, run, operand)
+}
+
+/// The first operand of `&&` or `||`, as the list of those that were read (C11 6.5.13p2, 6.5.14p2).
+pub(crate) fn first_truth(
+    alloc: Global,
+    found: &mut Found,
+    around: &Around<'_>,
+    place: Pos,
+    operand: Option<Operand>,
+) -> Result<Option<Items<TExpr>>, Memory>
+    ensures { Walks (sequences.first_truth place operand) around.now found.old result found.new }
+{
+    let truth = truth_if_any(alloc, found, around, place, operand)?;
+    Ok(with_truth(alloc, Some(Items::new(alloc)), truth)?)
+}
+
+/// One more operand of `&&` or `||`, where no fault stands in those before it.
+pub(crate) fn with_truth(
+    alloc: Global,
+    all: Option<Items<TExpr>>,
+    truth: Option<Operand>,
+) -> Result<Option<Items<TExpr>>, Memory>
+    ensures { IfOk result (λ r. r ≡ sequences.with_truth all truth) }
+{
+    let (Some(mut all), Some(truth)) = (all, truth) else {
+        return Ok(None);
+    };
+    all.push(tree_of(alloc, truth)?)?;
+    Ok(Some(all))
+}
+
+/// `&&` or `||` of operands, where no fault stands in them.
+pub(crate) fn logical_of(alloc: Global, is_or: bool, all: Option<Items<TExpr>>) -> Option<Operand>
+    ensures { result ≡ option_map (sequences.logical_of is_or) all }
+{
+    let all = all?;
+    if is_or {
+        Some(any_of(alloc, all))
+    } else {
+        Some(all_of(alloc, all))
+    }
+}
+
+/// The operands of a comma whose value is dropped, and one more, where no fault stands in them (C11 6.5.17p2).
+pub(crate) fn with_dropped(
+    alloc: Global,
+    all: Option<Items<TExpr>>,
+    operand: Option<Operand>,
+) -> Result<Option<Items<TExpr>>, Memory>
+    ensures { IfOk result (λ r. r ≡ sequences.with_dropped all operand) }
+{
+    let (Some(mut all), Some(operand)) = (all, operand) else {
+        return Ok(None);
+    };
+    let operand = dropping(alloc, operand)?;
+    all.push(tree_of(alloc, operand)?)?;
+    Ok(Some(all))
+}
+
+/// `,`: the operands that are dropped, and the last (C11 6.5.17p2).
+pub(crate) fn comma_if_both(
+    alloc: Global,
+    dropped: Option<Items<TExpr>>,
+    last: Option<Operand>,
+) -> Result<Option<Operand>, Memory>
+    ensures { IfOk result (λ r. r ≡ sequences.comma_if_both dropped last) }
+{
+    let (Some(dropped), Some(last)) = (dropped, last) else {
+        return Ok(None);
+    };
+    Ok(Some(comma_of(alloc, dropped, last)?))
+}
+
+/// A chain of `? :`, made from its right end (C11 6.5.15p1).
+pub(crate) fn chosen_by(
+    alloc: Global,
+    found: &mut Found,
+    around: &Around<'_>,
+    mut choices: Items<Choice>,
+    last: Option<Operand>,
+) -> Result<Option<Operand>, Memory>
+    ensures { Walks (sequences.choices_row choices last) around.now found.old result found.new }
+{
+    let mut chain = last_of_chain(alloc, last)?;
+    while let Some(choice) = choices.pop() {
+        let Choice {
+            question,
+            condition,
+            gives,
+        } = choice;
+        chain = conditional_row(alloc, found, around, question, condition, gives, chain)?;
+    }
+    value_of_chain(alloc, chain)
+}
+
+/// The right end of a chain of `? :`, where no fault stands in it.
+fn last_of_chain(alloc: Global, last: Option<Operand>) -> Result<Option<Chain>, Memory>
+    ensures { IfOk result (λ r. option_map chain_of r ≡ option_map spec.chain_end last) }
+{
+    match last {
+        Some(last) => Ok(Some(chain_end(alloc, last)?)),
+        None => Ok(None),
+    }
+}
+
+/// What a chain of `? :` is as a whole.
+fn value_of_chain(alloc: Global, chain: Option<Chain>) -> Result<Option<Operand>, Memory>
+    ensures { IfOk result (λ o. o ≡ option_map (λ c. c.whole) (option_map chain_of chain)) }
+{
+    match chain {
+        Some(chain) => Ok(Some(chain_value(alloc, chain)?)),
+        None => Ok(None),
+    }
+}
+
+/// A chain of assignments, made from its right end (C11 6.5.16p1).
+pub(crate) fn assigned_by(
+    alloc: Global,
+    found: &mut Found,
+    around: &Around<'_>,
+    mut left: Items<LeftSide>,
+    last: Option<Operand>,
+) -> Result<Option<Operand>, Memory>
+    ensures { Walks (sequences.left_sides_row left last) around.now found.old result found.new }
+{
+    let mut assigned = last_assigned(alloc, last)?;
+    while let Some(side) = left.pop() {
+        let LeftSide { operand, operator } = side;
+        assigned = assign_row(alloc, found, around, operator, operand, assigned)?;
+    }
+    value_of_assigned(alloc, assigned)
+}
+
+/// The right end of a chain of assignments, where no fault stands in it.
+fn last_assigned(alloc: Global, last: Option<Operand>) -> Result<Option<Assigned>, Memory>
+    ensures { IfOk result (λ r. option_map assigned_of r ≡ option_map spec.assigned_end last) }
+{
+    match last {
+        Some(last) => Ok(Some(assigned_end(alloc, last)?)),
+        None => Ok(None),
+    }
+}
+
+/// What a chain of assignments is as a whole.
+fn value_of_assigned(alloc: Global, assigned: Option<Assigned>) -> Result<Option<Operand>, Memory>
+    ensures { IfOk result (λ o. o ≡ option_map (λ a. a.whole) (option_map assigned_of assigned)) }
+{
+    match assigned {
+        Some(assigned) => Ok(Some(assigned_value(alloc, assigned)?)),
+        None => Ok(None),
+    }
+}
