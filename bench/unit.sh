@@ -1,7 +1,7 @@
 #!/bin/sh
 # Times the parser of units on generated sources: bench/unit.sh [PROGRAM]
 #
-# What each kind of source has is told in unit_source.py. The status is 1 where one takes more than twice as long for twice as much.
+# What each kind of source has is told in unit_source.py. The status is 1 where one takes more than 2.2 times as long for twice as much.
 set -eu
 . "$(dirname "$0")/common.sh"
 
