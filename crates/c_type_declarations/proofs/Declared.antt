@@ -11,7 +11,7 @@ use Rattle.c_typing.specs.Declarations as spec
 use Rattle.c_type_walk.specs.Walks.{Gave}
 use Rattle.c_type_walk.specs.declared.found.Found.{Found}
 use Rattle.c_type_declarations.specs.Rows.{behind_any}
-use Rattle.c_type_declarations.proofs.Walked.{then, gives, asks_nothing}
+use Rattle.c_type_walk.proofs.Walked.{then, gives, asks_nothing}
 
 pub stands_alone : (ds : List InitDeclarator) (b : Bool) → (IsTrue b ↔ (ds ≡ [])) → b ≡ spec.is_nil (map spec.beginning_of ds)
 stands_alone [] true h = refl

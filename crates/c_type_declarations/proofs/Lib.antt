@@ -1,4 +1,3 @@
-pub mod Walked
 pub mod InTurn
 pub mod Names
 pub mod Started

@@ -16,7 +16,7 @@ use Rattle.c_type_walk.specs.declared.around.Around.{Around}
 use Rattle.c_type_walk.specs.declared.found.Found.{Found}
 use Rattle.c_type_declarations.specs.declared.automatic.Slot.{Slot}
 use Rattle.c_type_declarations.specs.Slots.{automatic_at, initialised_at}
-use Rattle.c_type_declarations.proofs.Walked.{then, gives, asks_nothing, changes, tail, answered}
+use Rattle.c_type_walk.proofs.Walked.{then, gives, asks_nothing, changes, tail, answered}
 
 -- a type may be filled, an initialiser fills it, and what is filled is walked by a call
 pub started_as : {B C : Type 0} (fillable : Walk CType) (fill : CType → Walk B) (rest : CType → B → Walk C) (c : Around)
