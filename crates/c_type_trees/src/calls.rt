@@ -14,15 +14,15 @@ use c_typing::{Basis, Operand, Part};
 use std::alloc::Global;
 use word_ops::{Items, Memory};
 
-/// How many trees may stand inside one another, an operand with which an expression begins not counted: of 256 open brackets a parser
-/// makes fewer, since none but 16 stand between a bracket and the next.
-const DEEPEST: u32 = 8192;
+/// How many trees may stand inside one another, an operand with which an expression begins not counted. The count is what the recursion
+/// ends by; it runs out for no tree, since each one takes a place of its own in an address space of 64 bits.
+const DEEPEST: u64 = u64::MAX;
 
 /// What typing makes of an expression (C11 6.5), or `None` where a fault stands in it.
 ///
 /// # Errors
 ///
-/// `Memory` where memory is wanting, or the stack has no room for so many trees inside one another.
+/// `Memory` where memory is wanting.
 pub fn expr(
     alloc: Global,
     found: &mut Found,

@@ -17,7 +17,7 @@ use c_typing::Part;
 use std::alloc::Global;
 use word_ops::{Items, Memory};
 
-impl<F: Fn(Global, &mut Found, &Around<'_>, u32, Tree<'_>) -> Result<Typed, Memory>> Walker<F> {
+impl<F: Fn(Global, &mut Found, &Around<'_>, u64, Tree<'_>) -> Result<Typed, Memory>> Walker<F> {
     /// The derivations of a declarator, each applied to the type before it; the parameters of the part beside the name are kept in
     /// scope where it is that of a definition.
     pub fn derivations(

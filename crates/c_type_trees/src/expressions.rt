@@ -18,7 +18,7 @@ use c_typing::Operand;
 use std::alloc::Global;
 use word_ops::{Items, Memory};
 
-impl<F: Fn(Global, &mut Found, &Around<'_>, u32, Tree<'_>) -> Result<Typed, Memory>> Walker<F> {
+impl<F: Fn(Global, &mut Found, &Around<'_>, u64, Tree<'_>) -> Result<Typed, Memory>> Walker<F> {
     /// What typing makes of an expression. The operands with which it begins, each inside the one before it, are walked one after the
     /// other from the innermost on, so that nothing is kept on the stack for the brackets that are open.
     pub fn expression(

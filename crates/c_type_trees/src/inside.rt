@@ -9,7 +9,7 @@ use c_type_walk::{Around, Found};
 use std::alloc::Global;
 use word_ops::Memory;
 
-impl<F: Fn(Global, &mut Found, &Around<'_>, u32, Tree<'_>) -> Result<Typed, Memory>> Walker<F> {
+impl<F: Fn(Global, &mut Found, &Around<'_>, u64, Tree<'_>) -> Result<Typed, Memory>> Walker<F> {
     /// What typing makes of a tree.
     fn tree(&self, found: &mut Found, around: &Around<'_>, tree: Tree<'_>) -> Result<Typed, Memory>
         requires { Nests self.now.more (F.pre self.now.inside) (F.post self.now.inside) }
@@ -31,12 +31,12 @@ impl<F: Fn(Global, &mut Found, &Around<'_>, u32, Tree<'_>) -> Result<Typed, Memo
 ///
 /// # Errors
 ///
-/// `Memory` where memory is wanting, or the stack has no room for more trees inside one another.
+/// `Memory` where memory is wanting, or no more trees may stand inside one another.
 pub(crate) fn inside(
     alloc: Global,
     found: &mut Found,
     around: &Around<'_>,
-    more: u32,
+    more: u64,
     tree: Tree<'_>,
 ) -> Result<Typed, Memory>
     ensures { WalksTree tree.entry around.now found.old result found.new }

@@ -26,4 +26,4 @@ mod types;
 mod walker;
 
 pub use calls::{declared_type, expr, parts, specifiers};
-pub use names::{callee, first_specifier, first_token, literal, makes, name};
+pub use names::{first_specifier, first_token, literal, makes, name};

@@ -19,7 +19,7 @@ use c_typing::Basis;
 use std::alloc::Global;
 use word_ops::{Items, Memory};
 
-impl<F: Fn(Global, &mut Found, &Around<'_>, u32, Tree<'_>) -> Result<Typed, Memory>> Walker<F> {
+impl<F: Fn(Global, &mut Found, &Around<'_>, u64, Tree<'_>) -> Result<Typed, Memory>> Walker<F> {
     /// A structure and its members.
     pub fn structure(
         &self,

@@ -21,7 +21,7 @@ use c_typing::Operand;
 use std::alloc::Global;
 use word_ops::{Items, Memory};
 
-impl<F: Fn(Global, &mut Found, &Around<'_>, u32, Tree<'_>) -> Result<Typed, Memory>> Walker<F> {
+impl<F: Fn(Global, &mut Found, &Around<'_>, u64, Tree<'_>) -> Result<Typed, Memory>> Walker<F> {
     /// Operators of one level behind their first operand (C11 6.5.5 to 6.5.14).
     pub fn operators(
         &self,

@@ -26,7 +26,7 @@ use word_ops::{Items, Memory};
 /// A parameter as typed.
 type TypedParameter = c_typing::Parameter;
 
-impl<F: Fn(Global, &mut Found, &Around<'_>, u32, Tree<'_>) -> Result<Typed, Memory>> Walker<F> {
+impl<F: Fn(Global, &mut Found, &Around<'_>, u64, Tree<'_>) -> Result<Typed, Memory>> Walker<F> {
     /// A parameter list: that of a definition stays in scope, and that of a declaration is a scope of its own (C11 6.2.1p4).
     pub fn parameter_list(
         &self,

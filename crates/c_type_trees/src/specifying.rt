@@ -24,7 +24,7 @@ use c_typing::Basis;
 use std::alloc::Global;
 use word_ops::Memory;
 
-impl<F: Fn(Global, &mut Found, &Around<'_>, u32, Tree<'_>) -> Result<Typed, Memory>> Walker<F> {
+impl<F: Fn(Global, &mut Found, &Around<'_>, u64, Tree<'_>) -> Result<Typed, Memory>> Walker<F> {
     /// What specifiers are as a whole (C11 6.7); whether they stand alone, without a declarator behind them, matters to a tag (C11
     /// 6.7.2.3p7).
     pub fn basis(

@@ -21,7 +21,7 @@ use c_typing::Operand;
 use std::alloc::Global;
 use word_ops::Memory;
 
-impl<F: Fn(Global, &mut Found, &Around<'_>, u32, Tree<'_>) -> Result<Typed, Memory>> Walker<F> {
+impl<F: Fn(Global, &mut Found, &Around<'_>, u64, Tree<'_>) -> Result<Typed, Memory>> Walker<F> {
     /// An operand and the suffixes behind it; a name directly before the `(` of a call is that of a function (C11 6.5.2.2p1).
     pub fn postfix(
         &self,

@@ -21,11 +21,11 @@ use word_ops::{Items, Memory};
 #[derive(Clone, Copy)]
 pub(crate) struct Walker<F> {
     pub alloc: Global,
-    pub more: u32,
+    pub more: u64,
     pub inside: F,
 }
 
-impl<F: Fn(Global, &mut Found, &Around<'_>, u32, Tree<'_>) -> Result<Typed, Memory>> Walker<F> {
+impl<F: Fn(Global, &mut Found, &Around<'_>, u64, Tree<'_>) -> Result<Typed, Memory>> Walker<F> {
     /// What typing makes of an expression inside another tree (C11 6.5).
     pub fn expr(
         &self,

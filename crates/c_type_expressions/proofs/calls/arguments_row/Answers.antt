@@ -4,9 +4,8 @@ use Rattle.c_tree.specs.declared.token.Pos.{Pos}
 use Rattle.c_tree.specs.declared.typed.types.CType.{CType}
 use Rattle.c_tree.specs.declared.typed.expression.TExpr.{TExpr}
 use Rattle.c_typing.specs.declared.fault.Fault.{Fault}
-use Rattle.c_typing.specs.declared.scope.State.{State}
 use Rattle.c_typing.specs.declared.operand.Operand.{Operand}
-use Rattle.c_typing.specs.Scopes.{Around, Said, give, asked}
+use Rattle.c_typing.specs.Scopes.{Around, Said, asked}
 use Rattle.c_typing.specs.Expressions.{Argument, given_row, arguments_row}
 use Rattle.c_type_walk.specs.declared.found.Found.{Found}
 use Rattle.c_type_walk.specs.Walks.{Gave, fixed}
@@ -31,17 +30,6 @@ no_more : (c : Around) (items : List Argument) (left : List CType) (whole : Said
     items ≡ [] → SoFar whole old.faults now given (arguments_row items left c now.state) → Gave whole old now given
 no_more c items left whole old now given e h =
     so_far-end whole old now given c (subst (λ (l : List Argument). SoFar whole old.faults now given (arguments_row l left c now.state)) e h)
-
-no_parameters : (items : List Argument) (c : Around) (s : State) → arguments_row items [] c s ≡ give [] c s
-no_parameters [] c s = refl
-no_parameters (a ∷ args) c s = refl
-
-no_more_parameters : (c : Around) (items : List Argument) (left : List CType) (whole : Said (List TExpr)) (old now : Found) (given : Option (List TExpr)) →
-    left ≡ [] → SoFar whole old.faults now given (arguments_row items left c now.state) → Gave whole old now given
-no_more_parameters c items left whole old now given e h =
-    so_far-end whole old now given c
-    (subst (λ (said : Said (List TExpr)). SoFar whole old.faults now given said) (no_parameters items c now.state)
-    (subst (λ (l : List CType). SoFar whole old.faults now given (arguments_row items l c now.state)) e h))
 
 pub loop-place-preserved : goal.loop-place-preserved
 loop-place-preserved c = record {
