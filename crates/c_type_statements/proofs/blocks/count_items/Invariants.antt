@@ -1,0 +1,10 @@
+use Rattle.std.proofs.Common.{◌≡◌, ◌+◌, drop, map}
+use Rattle.c_typing.specs.OfStatements as spec
+use Rattle.c_typing.specs.Statements.{block_item_typing}
+use Rattle.c_type_declarations.specs.Counting.{named}
+use Rattle.c_type_statements.proofs.blocks.count_items.Given as goal
+
+abbrev pub invariant-loop-item : goal.invariant-loop-item
+invariant-loop-item l =
+    l.count + spec.count_items (named l.names) (map block_item_typing (drop l.item-index l.items))
+    ≡ spec.count_items (spec.function_names l.state) (map block_item_typing l.items)
