@@ -1,0 +1,5 @@
+pub mod Defined
+mod Bodies
+mod InOrder
+mod FileObjects
+mod Settled

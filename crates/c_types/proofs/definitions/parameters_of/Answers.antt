@@ -1,0 +1,6 @@
+use Rattle.std.proofs.Common.{◌∙◌, sym}
+use Rattle.c_types.proofs.Bodies.{parameters_popped}
+use Rattle.c_types.proofs.definitions.parameters_of.Goals as goal
+
+pub returns-in-Some : goal.returns-in-Some
+returns-in-Some c = c.listed.ensures ∙ sym (parameters_popped c.args.list _ c.in-Some.last c.in-Some.ensures)

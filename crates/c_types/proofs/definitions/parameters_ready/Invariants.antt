@@ -1,0 +1,9 @@
+use Rattle.std.proofs.Common.{◌≡◌, drop}
+use Rattle.c_types.specs.Definitions as parts
+use Rattle.c_types.proofs.definitions.parameters_ready.Given as goal
+
+abbrev pub invariant-loop-one : goal.invariant-loop-one
+invariant-loop-one l = record {
+  faults : l.found.faults ≡ l.initial.found.faults;
+  state : parts.readied (drop l.one-index l.list) l.found.state ≡ parts.readied l.list l.initial.found.state;
+}
