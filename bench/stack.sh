@@ -1,5 +1,5 @@
 #!/bin/sh
-# Finds the stack that the parser of units takes for sources that nest as deep as they may: bench/stack.sh [PROGRAM]
+# Finds the stack that reading and typing take for sources that nest as deep as they may: bench/stack.sh [PROGRAM]
 set -eu
 . "$(dirname "$0")/common.sh"
 

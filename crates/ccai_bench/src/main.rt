@@ -4,12 +4,14 @@
 //!     ccai_bench lex SOURCE           reads the tokens of a source; the status is 0
 //!     ccai_bench expression SOURCE    reads a source's tokens and from them one expression, which is all of it
 //!     ccai_bench unit SOURCE          reads a source's tokens and from them a unit
+//!     ccai_bench types SOURCE         reads a source's tokens, a unit and its typed tree
 //!
-//! The status is 64 where the words are not so, 65 where the file is refused or memory is wanting, and 73
-//! where the program did not end by itself.
+//! The status is 64 where the words are not so, 65 where the file is refused, 70 where memory is wanting for the
+//! typed tree (elsewhere that is 65), and 73 where the program did not end by itself.
 #![tactic(auto)]
 
 use c_tree::Tokens;
+use c_types::{CheckFault, check};
 use ccai_io::{FileShelf, Shelf, StdSink, StdSource};
 use rv_machine::End;
 use scope_map::ScopeMap;
@@ -21,6 +23,9 @@ const USAGE: u8 = 64;
 
 /// The status where the layer refuses what it was given.
 const REFUSED: u8 = 65;
+
+/// The status where memory is wanting for a typed tree.
+const WANTING: u8 = 70;
 
 /// The status where a program did not end by itself.
 const SPENT: u8 = 73;
@@ -34,6 +39,7 @@ enum Layer {
     Lex,
     Expression,
     Unit,
+    Types,
 }
 
 fn main(rt: HostRuntime) -> ExitCode {
@@ -78,6 +84,7 @@ fn layer_of(command: &str) -> Option<Layer> {
         "lex" => Some(Layer::Lex),
         "expression" => Some(Layer::Expression),
         "unit" => Some(Layer::Unit),
+        "types" => Some(Layer::Types),
         _ => None,
     }
 }
@@ -102,6 +109,7 @@ fn read(rt: &HostRuntime, layer: Layer, source: &[u8]) -> u8 {
         Layer::Lex => 0,
         Layer::Expression => read_expression(rt, &tokens),
         Layer::Unit => read_unit(rt, &tokens),
+        Layer::Types => read_types(rt, &tokens),
     }
 }
 
@@ -119,6 +127,18 @@ fn read_unit(rt: &HostRuntime, tokens: &Tokens) -> u8 {
     match c_unit_parser::parse(rt.alloc(), tokens) {
         Ok(_) => 0,
         Err(_) => REFUSED,
+    }
+}
+
+/// Reads all the tokens as a unit, and its typed tree.
+fn read_types(rt: &HostRuntime, tokens: &Tokens) -> u8 {
+    let Ok(unit) = c_unit_parser::parse(rt.alloc(), tokens) else {
+        return REFUSED;
+    };
+    match check(rt.alloc(), &unit) {
+        Ok(_) => 0,
+        Err(CheckFault::Fault(_, _)) => REFUSED,
+        Err(CheckFault::Memory) => WANTING,
     }
 }
 
