@@ -36,7 +36,7 @@ KINDS = {
     "switches": ("int main(void){", "switch(0){case 0:", ";", "}", "return 0;}"),
     "all levels": ("int main(void){int x;x=0;return ", "(0,x=0?1:0||0&&0|0^0&0==0<0<<0+0*-", "x", ")", ";}"),
 }
-# the trees inside one another that typing keeps on the stack
+# where typing is known to take more: each tree inside another stays on its stack, and here are up to fifteen to a bracket
 KNOWN = {"all levels"}
 
 
