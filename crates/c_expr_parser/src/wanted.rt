@@ -3,7 +3,7 @@
 use c_tree::{Declarator, Expr, Specifiers};
 
 /// How a declarator is used, which tells whether it has a name.
-#[derive(Clone, Copy, Debug, PartialEq, Eq)]
+#[derive(Clone, Copy, PartialEq, Eq)]
 pub enum Use {
     /// In a declaration, a member or a definition: with a name (C11 6.7.6).
     Declaring,
@@ -14,7 +14,7 @@ pub enum Use {
 }
 
 /// The production of an expression that begins a tree of its own.
-#[derive(Clone, Copy, Debug, PartialEq, Eq)]
+#[derive(Clone, Copy, PartialEq, Eq)]
 pub enum Within {
     /// An expression (C11 6.5.17).
     Comma,
@@ -25,7 +25,7 @@ pub enum Within {
 }
 
 /// What is to be read.
-#[derive(Clone, Copy, Debug, PartialEq, Eq)]
+#[derive(Clone, Copy, PartialEq, Eq)]
 pub enum Wanted {
     /// An expression of this production.
     Expression(Within),

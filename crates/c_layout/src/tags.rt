@@ -8,7 +8,7 @@ use std::marker::Model;
 use word_ops::{Items, Memory, Text};
 
 /// A member of a structure.
-#[derive(Debug, Drop)]
+#[derive(Drop)]
 pub struct MemberLayout {
     /// its name
     pub name: Text,
@@ -19,7 +19,7 @@ pub struct MemberLayout {
 }
 
 /// What is known of a structure type that has its members.
-#[derive(Debug, Drop)]
+#[derive(Drop)]
 pub struct StructLayout {
     /// its size in bytes (C11 6.5.3.4p4), at most 2^64 - 1
     pub size: u64,
@@ -31,7 +31,7 @@ pub struct StructLayout {
 
 /// The structure types of a unit (C11 6.7.2.1, 6.7.2.3), by their numbers: each with its layout, or none
 /// as long as it has no members.
-#[derive(Debug, Drop)]
+#[derive(Drop)]
 pub struct Tags {
     list: Items<Option<StructLayout>>,
 }

@@ -4,7 +4,7 @@ use crate::token::Pos;
 use word_ops::{Boxed, Items};
 
 /// `*` and the places of the `const` words behind it (C11 6.7.6.1).
-#[derive(Debug, Drop)]
+#[derive(Drop)]
 pub struct Pointer {
     pub star: Pos,
     pub constants: Items<Pos>,

@@ -4,28 +4,28 @@ use crate::token::{IntKind, Pos, Punct};
 use word_ops::{Boxed, Items, Text};
 
 /// A name and its place.
-#[derive(Debug, Drop)]
+#[derive(Drop)]
 pub struct Identifier {
     pub text: Text,
     pub place: Pos,
 }
 
 /// A string literal and its place: the bytes of its elements, without the zero byte at its end.
-#[derive(Debug, Drop)]
+#[derive(Drop)]
 pub struct Literal {
     pub bytes: Text,
     pub place: Pos,
 }
 
 /// A punctuator and its place.
-#[derive(Clone, Copy, Debug, PartialEq, Eq)]
+#[derive(Clone, Copy, PartialEq, Eq)]
 pub struct Mark {
     pub punct: Punct,
     pub place: Pos,
 }
 
 /// The levels of binary operators, loosest first (C11 6.5.5 to 6.5.14).
-#[derive(Clone, Copy, Debug, PartialEq, Eq)]
+#[derive(Clone, Copy, PartialEq, Eq)]
 pub enum Level {
     /// `||`
     Or,

@@ -17,7 +17,7 @@ use std::alloc::Global;
 use word_ops::{Items, Memory};
 
 /// What specifiers are made of, as far as they have been read.
-#[derive(Debug, Drop)]
+#[derive(Drop)]
 pub struct SpecifierParts {
     /// the words that name a type (C11 6.7.2)
     words: Items<TypeWord>,

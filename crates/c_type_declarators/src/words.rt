@@ -8,7 +8,7 @@ use c_tree::TypeWord;
 use c_tree::typed::{Base, Sign};
 
 /// A word that is not `int`, `signed` or `unsigned`: at most one of them names a type.
-#[derive(Clone, Copy, Debug, PartialEq, Eq)]
+#[derive(Clone, Copy, PartialEq, Eq)]
 enum Kind {
     Void,
     Bool,
@@ -18,7 +18,7 @@ enum Kind {
 }
 
 /// The words that stand together so far, in any order. None of them may stand twice.
-#[derive(Clone, Copy, Debug, PartialEq, Eq)]
+#[derive(Clone, Copy, PartialEq, Eq)]
 struct Words {
     sign: Option<Sign>,
     kind: Option<Kind>,

@@ -3,7 +3,7 @@ use c_tree::{Identifier, Pos, Storage};
 use word_ops::Items;
 
 /// A parameter (C11 6.7.6.3).
-#[derive(Debug, Drop)]
+#[derive(Drop)]
 pub struct Parameter {
     /// its name
     pub name: Option<Identifier>,
@@ -16,7 +16,7 @@ pub struct Parameter {
 }
 
 /// One derivation of a declarator (C11 6.7.6).
-#[derive(Debug, Drop)]
+#[derive(Drop)]
 pub enum Part {
     /// a pointer, and whether it is `const`
     Pointing(bool),
@@ -27,7 +27,7 @@ pub enum Part {
 }
 
 /// Specifiers as a whole (C11 6.7).
-#[derive(Debug, Drop)]
+#[derive(Drop)]
 pub struct Basis {
     /// the storage word among them
     pub storage: Option<Storage>,

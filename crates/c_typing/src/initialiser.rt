@@ -4,7 +4,7 @@ use c_tree::typed::CType;
 use word_ops::{Items, Text};
 
 /// One part of an object and what initialises it (C11 6.7.9p17).
-#[derive(Debug, Drop)]
+#[derive(Drop)]
 pub enum Leaf {
     /// an expression
     Given {
@@ -24,7 +24,7 @@ pub enum Leaf {
 }
 
 /// The parts of an object that are initialised.
-#[derive(Debug, Drop)]
+#[derive(Drop)]
 pub struct Filled {
     /// the parts, in order
     pub leaves: Items<Leaf>,
@@ -33,7 +33,7 @@ pub struct Filled {
 }
 
 /// An aggregate that is being filled.
-#[derive(Debug, Drop)]
+#[derive(Drop)]
 pub struct Frame {
     /// its type
     pub ctype: CType,
@@ -44,7 +44,7 @@ pub struct Frame {
 }
 
 /// A part of an aggregate.
-#[derive(Debug, Drop)]
+#[derive(Drop)]
 pub struct Piece {
     /// where it begins, in bytes from the start of the whole
     pub offset: u32,
@@ -53,7 +53,7 @@ pub struct Piece {
 }
 
 /// A place in a static object (C11 6.6p9).
-#[derive(Clone, Copy, Debug, PartialEq, Eq)]
+#[derive(Clone, Copy, PartialEq, Eq)]
 pub struct Address {
     /// the number of the object in the unit
     pub object: u32,

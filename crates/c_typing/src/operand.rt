@@ -2,7 +2,7 @@ use c_tree::typed::{CType, Step, TExpr};
 use word_ops::Items;
 
 /// What an operand is (C11 6.3.2.1p1).
-#[derive(Clone, Copy, Debug, PartialEq, Eq)]
+#[derive(Clone, Copy, PartialEq, Eq)]
 pub enum Form {
     /// a value; that of a structure type is the address of the structure
     Value,
@@ -23,7 +23,7 @@ pub enum Form {
 ///
 /// An lvalue is kept as the address of its object until it is known whether that object is read, changed, or has its
 /// address taken (C11 6.3.2.1).
-#[derive(Debug, Drop)]
+#[derive(Drop)]
 pub struct Operand {
     /// its type; that of an lvalue is the type of the object
     pub ctype: CType,

@@ -2,7 +2,7 @@ use c_tree::FaultKind;
 use c_tree::typed::{Arithmetic, CType};
 
 /// What a row of the table of operators plans.
-#[derive(Debug, Drop)]
+#[derive(Drop)]
 pub struct Plan {
     /// the type to which the left operand is converted
     pub left: CType,
@@ -15,7 +15,7 @@ pub struct Plan {
 }
 
 /// What a row of the table of operators says of two operands.
-#[derive(Debug, Drop)]
+#[derive(Drop)]
 pub enum Row {
     /// it does not take them
     Other,

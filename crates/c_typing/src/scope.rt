@@ -6,7 +6,7 @@ use word_ops::{Items, Text};
 
 /// What an ordinary identifier stands for (C11 6.2.3p1). A type that has a fault in it is none, and nothing is asked
 /// of it.
-#[derive(Debug, Drop)]
+#[derive(Drop)]
 pub enum Meaning {
     /// a typedef name (C11 6.7.8)
     TypedefOf(CType),
@@ -32,7 +32,7 @@ pub enum Meaning {
 }
 
 /// What a tag stands for (C11 6.7.2.3).
-#[derive(Clone, Copy, Debug, PartialEq, Eq)]
+#[derive(Clone, Copy, PartialEq, Eq)]
 pub enum Tag {
     /// the structure type of this number, and whether a list of its members has begun
     StructTag(u32, bool),
@@ -41,7 +41,7 @@ pub enum Tag {
 }
 
 /// An automatic object that the present block declares (C11 6.2.4p5).
-#[derive(Debug, Drop)]
+#[derive(Drop)]
 pub struct Local {
     /// its type
     pub ctype: CType,
@@ -50,7 +50,7 @@ pub struct Local {
 }
 
 /// What has linkage in the unit (C11 6.2.2).
-#[derive(Debug, Drop)]
+#[derive(Drop)]
 pub struct Linkage {
     /// its type, as all its declarations tell it
     pub ctype: CType,

@@ -3,7 +3,7 @@
 use c_tree::{BlockItem, Declaration, Initialiser, Stmt};
 
 /// What is to be read.
-#[derive(Clone, Copy, Debug, PartialEq, Eq)]
+#[derive(Clone, Copy, PartialEq, Eq)]
 pub enum Wanted {
     /// An initialiser, in braces.
     Initialiser,

@@ -72,7 +72,7 @@ pub fn begins_specifiers(word: Keyword) -> bool
 }
 
 /// The kinds of statements (C11 6.8).
-#[derive(Clone, Copy, Debug, PartialEq, Eq)]
+#[derive(Clone, Copy, PartialEq, Eq)]
 pub enum StatementKind {
     /// A block.
     Braced,
@@ -170,7 +170,7 @@ pub fn mark_begins_statement(op: Punct) -> bool
 }
 
 /// The kinds of items of a block (C11 6.8.2, 6.8.1).
-#[derive(Clone, Copy, Debug, PartialEq, Eq)]
+#[derive(Clone, Copy, PartialEq, Eq)]
 pub enum ItemKind {
     /// A declaration.
     Declaration,

@@ -5,7 +5,7 @@ use word_ops::{Boxed, Items};
 /// An expression (C11 6.5). Each form has first the type of the whole; that of a designator is the
 /// type of the object (C11 6.5p1).
 #[cycle(expressions)]
-#[derive(Debug, Drop)]
+#[derive(Drop)]
 pub enum TExpr {
     /// something without operands
     Primary(CType, Primary),
@@ -66,7 +66,7 @@ impl TExpr {
 
 /// What is done with a value.
 #[cycle(expressions)]
-#[derive(Debug, Drop)]
+#[derive(Drop)]
 pub enum Step {
     /// something that takes no other operand
     Unary(Unary),
@@ -76,7 +76,7 @@ pub enum Step {
 
 /// A condition of `? :` and what is chosen where it holds.
 #[cycle(expressions)]
-#[derive(Debug, Drop)]
+#[derive(Drop)]
 pub struct Arm {
     /// the condition, of scalar type
     pub condition: TExpr,
@@ -86,7 +86,7 @@ pub struct Arm {
 
 /// The left side of an assignment.
 #[cycle(expressions)]
-#[derive(Debug, Drop)]
+#[derive(Drop)]
 pub enum Target {
     /// an automatic object of scalar type, by its place in scope
     Variable(u32, Change),

@@ -4,7 +4,7 @@ use crate::typed::unit::Object;
 use word_ops::{Boxed, Items, Text};
 
 /// The objects that a block declares (C11 6.8.2, 6.2.4p6), or a `for` in its head.
-#[derive(Debug, Drop)]
+#[derive(Drop)]
 pub struct Objects {
     /// how many objects of the function were declared before: its parameters, and the objects of blocks
     /// that begin before this one
@@ -14,7 +14,7 @@ pub struct Objects {
 }
 
 /// A piece of the initial value of an aggregate (C11 6.7.9p17 to p23).
-#[derive(Debug, Drop)]
+#[derive(Drop)]
 pub enum Initial {
     /// a value of scalar type, converted to the type of the member or element, so many bytes from the start
     Value(u32, Scalar, TExpr),
@@ -23,7 +23,7 @@ pub enum Initial {
 }
 
 /// The initial value of an automatic object (C11 6.7.9).
-#[derive(Debug, Drop)]
+#[derive(Drop)]
 pub enum Initialiser {
     /// that of an object of scalar type, converted to its type (p11)
     Scalar(Scalar, TExpr),
@@ -32,7 +32,7 @@ pub enum Initialiser {
 }
 
 /// A label of a switch (C11 6.8.1).
-#[derive(Clone, Copy, Debug, PartialEq, Eq, Hash)]
+#[derive(Clone, Copy, PartialEq, Eq, Hash)]
 pub enum Label {
     /// `case`, with its value converted to the promoted type of the operand (C11 6.8.4.2p5)
     Case(u32),
@@ -42,7 +42,7 @@ pub enum Label {
 
 /// A statement (C11 6.8), or a declaration with an initialiser.
 #[cycle(statements)]
-#[derive(Debug, Drop)]
+#[derive(Drop)]
 pub enum TStmt {
     /// an expression whose value was dropped (C11 6.8.3)
     Evaluate(TExpr),
@@ -72,7 +72,7 @@ pub enum TStmt {
 
 /// A condition of an `if` and what is done where it holds.
 #[cycle(statements)]
-#[derive(Debug, Drop)]
+#[derive(Drop)]
 pub struct Branch {
     /// the condition, of scalar type
     pub condition: TExpr,
@@ -82,7 +82,7 @@ pub struct Branch {
 
 /// A part of a switch: labels that stand together, and the statements up to the next label.
 #[cycle(statements)]
-#[derive(Debug, Drop)]
+#[derive(Drop)]
 pub struct Part {
     /// the labels; none only in front of the first label of the switch
     pub labels: Items<Label>,

@@ -1,7 +1,7 @@
 use word_ops::Items;
 
 /// A base type: one that is made of no other (C11 6.2.5).
-#[derive(Clone, Copy, Debug, PartialEq, Eq, Hash)]
+#[derive(Clone, Copy, PartialEq, Eq, Hash)]
 pub enum Base {
     /// `void` (C11 6.2.5p19)
     Void,
@@ -33,7 +33,7 @@ pub enum Base {
 
 /// How a type is derived from the one before it (C11 6.2.5p20).
 #[cycle(types)]
-#[derive(Debug, Drop)]
+#[derive(Drop)]
 pub enum Derived {
     /// a pointer to it; whether the pointer itself is `const`
     Pointer(bool),
@@ -48,7 +48,7 @@ pub enum Derived {
 /// `const char *a[3]` has the base `Char`, constant, and the derivations `Pointer(false)` and
 /// `Array(Some(3))`.
 #[cycle(types)]
-#[derive(Debug, Drop)]
+#[derive(Drop)]
 pub struct CType {
     /// the base type
     pub base: Base,

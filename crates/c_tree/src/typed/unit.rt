@@ -4,7 +4,7 @@ use crate::typed::types::CType;
 use word_ops::{Items, Text};
 
 /// A declared object (C11 6.2.4, 6.7).
-#[derive(Debug, Drop)]
+#[derive(Drop)]
 pub struct Object {
     /// its type
     pub ctype: CType,
@@ -21,7 +21,7 @@ pub struct Object {
 }
 
 /// What stands in a static object as the program begins, where that is not zero.
-#[derive(Debug, Drop)]
+#[derive(Drop)]
 pub enum StaticPart {
     /// bytes, so many bytes from the start of the object
     Bytes(u32, Text),
@@ -30,7 +30,7 @@ pub enum StaticPart {
 }
 
 /// An object of static storage duration (C11 6.2.4p3), a string literal among them (C11 6.4.5p6).
-#[derive(Debug, Drop)]
+#[derive(Drop)]
 pub struct StaticObject {
     /// the object; that of a string literal is constant (C11 6.4.5p7)
     pub object: Object,
@@ -39,7 +39,7 @@ pub struct StaticObject {
 }
 
 /// A function definition (C11 6.9.1).
-#[derive(Debug, Drop)]
+#[derive(Drop)]
 pub struct TFunction {
     /// the type of the value that it returns, or void
     pub result: CType,
@@ -57,7 +57,7 @@ pub struct TFunction {
 ///
 /// Functions and static objects go by their places in these lists. The functions stand in the order of
 /// their definitions.
-#[derive(Debug, Drop)]
+#[derive(Drop)]
 pub struct Typed {
     /// the static objects and string literals
     pub objects: Items<StaticObject>,
