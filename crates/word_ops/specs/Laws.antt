@@ -12,6 +12,7 @@ pub mod Words
 pub mod Addresses
 pub mod Runs
 pub mod Clock
+pub mod Depth
 pub mod Outcomes
 pub mod FadedStores
 pub mod Bytes

@@ -1,6 +1,7 @@
 pub mod Word
 pub mod Choice
 pub mod Operation
+pub mod Table
 pub mod Store
 pub mod Access
 pub mod Values
@@ -9,7 +10,9 @@ pub mod Changes
 pub mod Run
 pub mod Following
 pub mod Clock
+pub mod Depth
 pub mod Outcome
+pub mod Stack
 pub mod Laws
 pub mod Examples
 pub mod Instances

@@ -5,9 +5,6 @@ ghost use Rattle.word_ops.specs.Operation.{machine_word, is_undefined, word_of_o
 
 use crate::operation::Op;
 
-#[cfg(test)]
-mod tests;
-
 /// The word of an operation on two words, or `None` exactly where C leaves it undefined (C11 6.3, 6.5).
 ///
 /// Undefined are: a signed result out of the range of an `int` (6.5p5), a division by 0 and that of -2^31 by -1

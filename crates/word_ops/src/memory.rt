@@ -28,16 +28,3 @@ impl<T: Drop> From<AllocFailed<T>> for Memory {
         Memory
     }
 }
-
-#[cfg(test)]
-mod tests {
-    use super::Memory;
-    use std::test::Fail;
-
-    #[test]
-    fn says_out_of_memory(rt: HostRuntime) -> Result<(), Fail> {
-        let text = format!(in rt.alloc(); "{}", Memory)?;
-        assert_eq!(rt; text.as_str(), "out of memory");
-        Ok(())
-    }
-}

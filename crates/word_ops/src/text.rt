@@ -63,20 +63,3 @@ impl Hash for Text {
         self.as_slice().hash(state);
     }
 }
-
-#[cfg(test)]
-mod tests {
-    use super::Text;
-    use std::test::Fail;
-
-    #[test]
-    fn texts_are_equal_by_their_bytes(rt: HostRuntime) -> Result<(), Fail> {
-        let name = Text::from_vec([b'i', b'n', b't'].to_vec(rt.alloc())?);
-        let same = Text::from_vec([b'i', b'n', b't'].to_vec(rt.alloc())?);
-        let other = Text::from_vec([b'i', b'n'].to_vec(rt.alloc())?);
-        assert!(rt; name == same);
-        assert!(rt; name != other);
-        assert_eq!(rt; other.as_slice(), b"in".as_slice());
-        Ok(())
-    }
-}

@@ -50,7 +50,7 @@ cells_before xs cs o u m le fits =
     ∙ take-append-le m (drop u (take o xs)) cs (omega (arith, length-drop u (take o xs), l, le))
     ∙ take_drop_take xs u m o le
 
-cells_behind : (xs cs : List Cell) (o u : ℕ) → o + length cs ≤ u → o ≤ length xs →
+pub cells_behind : (xs cs : List Cell) (o u : ℕ) → o + length cs ≤ u → o ≤ length xs →
     drop u (take o xs ++ (cs ++ drop (o + length cs) xs)) ≡ drop u xs
 cells_behind xs cs o u le fits =
     ap (drop u) (sym (append_assoc (take o xs) cs (drop (o + length cs) xs)))
