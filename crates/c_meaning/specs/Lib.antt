@@ -4,7 +4,6 @@ pub mod Expressions
 pub mod Statements
 pub mod Units
 pub mod Examples
-pub mod Depth
 pub mod Kinds
 pub mod Laws
 pub mod Instances

@@ -10,6 +10,7 @@ pub mod Variables
 pub mod Regions
 pub mod Copies
 pub mod Filling
+pub mod Units
 pub mod Reads
 pub mod Locals
 pub mod Pointers

@@ -4,7 +4,6 @@ pub mod Copying
 pub mod Filling
 pub mod Acts
 pub mod Run
-pub mod Depth
 pub mod WellFormed
 pub mod Counts
 pub mod Following
