@@ -101,7 +101,7 @@ functions_formed (suc (suc (suc (suc f)))) g e = absurd (past f g e)
 pub sum_formed : IsWellFormed (program sum)
 unfolding computed program sum down own swap objects
 sum_formed = record {
-  main = (refl, refl);
+  main = record { params = refl; returns = refl; ends = refl; gives = refl };
   functions = functions_formed;
   objects = λ x o e. at_each (λ x o. ArePartsIn (program sum) o.size o.parts) objects x o ((omega arith, omega arith, (inl (omega arith), tt), (omega arith, omega arith, tt, tt)), ((omega arith, (refl, omega arith), tt, tt), tt)) e;
 }

@@ -16,5 +16,6 @@ pub mod Locals
 pub mod Pointers
 pub mod Addresses
 pub mod Statics
+pub mod Returns
 pub mod Layouts
 pub mod Outcomes

@@ -1,6 +1,6 @@
 //! Laws of the definitions that contracts cite. The functions do nothing: each is here for what its contract says, and
 //! the lemmas that other crates' proofs cite stand in `specs/Laws`.
-ghost use Rattle.std.specs.Prelude.{◌≡◌, ◌≢◌, ℕ, ◌+◌, ◌<◌, ◌≤◌, ◌/◌, List, ◌++◌, map, Some, None, true, false, slice_get, length};
+ghost use Rattle.std.specs.Prelude.{◌≡◌, ◌≢◌, ℕ, ◌+◌, ◌<◌, ◌≤◌, ◌/◌, List, ◌++◌, map, Option, Some, None, true, false, slice_get, length};
 ghost use Rattle.word_ops.specs.Store.{Value, Cell, Byte, Region, Store, refill_region};
 ghost use Rattle.word_ops.specs.Access.{cells_from, put_cells, copy};
 ghost use Rattle.word_ops.specs.Values.{value_of_operation};
@@ -137,6 +137,12 @@ pub fn runs_and_the_outside()
         run_of_core l p input depth clock ≡ run_of_core m p input depth clock }
     ensures reaches { (l : Layout) (p : Program) (depth : ℕ) (w u : Outside) (e : End) →
         program_from l p depth w ≡ Run.Ends e u → Reaches w u }
+{}
+
+/// Main: in a well-formed program its call gives a value, where it gives back at all.
+pub fn main_gives_a_value()
+    ensures { (l : Layout) (p : Program) (depth : ℕ) (w : Outside) → IsWellFormed p →
+        OnGives (λ (t : Store) (v : Option Value). (x : Value) × (v ≡ Some x)) (calls l p.functions depth (first_call l p) w) }
 {}
 
 /// Calls and the store: a call leaves the regions that were there with their sizes, flags and addresses. With a layout

@@ -209,6 +209,3 @@ fn with_rest_or_none(assumed: &Facts, back: &Facts) -> Facts
         anything()
     }
 }
-
-#[cfg(test)]
-mod tests;

@@ -1,3 +1,4 @@
 pub mod Congruences
 pub mod Parts
 pub mod Widths
+pub mod Meeting

@@ -69,6 +69,3 @@ pub fn refines_rest(facts: &Facts, wider: &Facts) -> bool
 {
     hull(facts, wider).modulus == wider.modulus
 }
-
-#[cfg(test)]
-mod tests;

@@ -15,5 +15,5 @@ returns-clause-node c = IfOk-weaker c.push.result _ _ (λ t n fresh. pushed_node
 pub returns-clause-value : goal.returns-clause-value
 returns-clause-value c =
     IfOk-weaker c.push.result _ _
-    (λ t n. load_given c.args.self.now.table c.push.new.self c.args.width c.args.pointer c.anything.result t.0 n c.requires c.anything.ensures.is)
+    (λ t n. load_given c.args.self.now.table c.push.new.self c.args.width c.args.pointer c.width_facts.result t.0 n c.requires c.width_facts.ensures)
     c.push.ensures.ok
