@@ -1,4 +1,5 @@
 -- Laws of the definitions beside this file, by subject.
+-- No contract cites these files: they hold proofs.
 pub mod Lists
 pub mod Clock
 pub mod Depth

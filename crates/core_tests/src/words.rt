@@ -5,7 +5,10 @@ use word_ops::{Memory, Op, Text, apply, machine, narrow};
 
 #[test]
 fn operations_give_the_words_of_the_table(rt: HostRuntime) {
-    assert_eq!(rt; apply(Op::Adds, 0x7fff_ffff, 0xffff_ffff), Some(0x7fff_fffe));
+    assert_eq!(rt;
+        apply(Op::Adds, 0x7fff_ffff, 0xffff_ffff),
+        Some(0x7fff_fffe)
+    );
     assert_eq!(rt; apply(Op::Adds, 0x7fff_ffff, 1), None);
     assert_eq!(rt; apply(Op::Divs, 0x8000_0000, 0xffff_ffff), None);
     assert_eq!(rt; machine(Op::Divs, 0x8000_0000, 0xffff_ffff), 0x8000_0000);

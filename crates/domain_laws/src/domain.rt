@@ -1,3 +1,6 @@
+//! The trait of an abstract domain: its calls with what each promises, and its laws. What its clients need of it
+//! stands in docs/DOMAIN_CLIENTS.md.
+
 ghost use Rattle.std.specs.Prelude.{◌≡◌, ◌↔◌, ℕ, Bool, true, false, IfOk, OnOk, OnErr, IsTrue, Some};
 ghost use Rattle.word_ops.specs.declared.operation.Op.{Op};
 ghost use Rattle.word_ops.specs.declared.operation.Width.{Width};

@@ -1,3 +1,6 @@
+//! The domain of terms alone, which implements the trait of `domain_laws` over a table: the bottom of every
+//! tower.
+
 ghost use Rattle.std.specs.Prelude.{◌≡◌, ◌≢◌, ℕ, ◌<◌, length, IfOk, OnErr, true, false, None};
 ghost use Rattle.word_ops.specs.Changes.{SameRegions};
 ghost use Rattle.term_form.specs.declared.term.Node.TheVariants as nodes;

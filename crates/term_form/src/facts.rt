@@ -1,3 +1,6 @@
+//! What is known of a word, with the test whether a word meets it, and the hull and the meet of two facts, each put
+//! together from its parts.
+
 ghost use Rattle.std.specs.Prelude.{◌≡◌, ◌↔◌, ◌⊎◌, ℕ, ◌<◌, ◌^◌, IsTrue};
 ghost use Rattle.term_form.specs.Meets.{Meets, meets, LiesIn, IsHull, IsMeet};
 

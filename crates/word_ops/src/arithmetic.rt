@@ -1,3 +1,6 @@
+//! The operations on words as functions: the word of each and where C leaves it undefined,
+//! and what a machine gives in any case.
+
 ghost use Rattle.std.specs.Prelude.{◌≡◌, ◌≤◌, ◌%◌};
 ghost use Rattle.std.specs.Int.{int_shr};
 ghost use Rattle.word_ops.specs.Word.{signed_value, word_of_integer, number_of_truth, narrowed};

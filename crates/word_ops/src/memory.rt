@@ -1,3 +1,6 @@
+//! Want of memory, the refusal that every layer may give: a type of one value, to which the errors of std's
+//! allocations convert.
+
 use std::alloc::{AllocError, AllocFailed};
 use std::error::Error;
 use std::fmt;

@@ -1,3 +1,6 @@
+//! Texts of bytes: the names and literals of sources as they stand there, compared and hashed by their
+//! bytes.
+
 ghost use Rattle.std.specs.Prelude.{◌≡◌, nat_eq};
 ghost use Rattle.std.specs.Cmp.{partial_equiv_from_equiv};
 ghost use Rattle.std.specs.Cmp.Lexicographic.{nat_list_eq_equiv, pointwise};

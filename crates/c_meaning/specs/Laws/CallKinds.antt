@@ -1,4 +1,5 @@
 -- What a statement returns, and what a call gives, is what the function's type has.
+-- No contract cites this file: it holds proofs.
 use Rattle.std.proofs.Common.{◌≡◌, refl, sym, subst, ℕ, zero, suc, List, [], ◌∷◌, length, arith, ⊎_elim}
 use Rattle.std.proofs.lemmas.Bool.Decides.{eqb_tells}
 use Rattle.std.specs.Prelude.{◌+◌, ◌==◌, map, Bool, true, false, Option, Some, None, slice_get}

@@ -1,4 +1,5 @@
 -- A run takes of the input, the output and the ticks alone, and with a longer clock it is the same run, further.
+-- No contract cites this file: it holds proofs.
 use Rattle.std.proofs.Common.{◌≡◌, ℕ, ◌+◌, List}
 use Rattle.std.specs.Prelude.{None}
 use Rattle.word_ops.specs.Clock.{IsTimed}

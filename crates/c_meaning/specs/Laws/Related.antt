@@ -1,4 +1,5 @@
 -- Where calls are related by a congruence, so are the runs of expressions, statements and functions with these calls in them.
+-- No contract cites this file: it holds proofs.
 use Rattle.std.proofs.Common.{ℕ, zero, suc, List, [], ◌∷◌, length}
 use Rattle.std.specs.Prelude.{◌%◌, ◌==◌, map, Bool, true, Option, Some, None, slice_get}
 use Rattle.word_ops.specs.Store.{Value, Number, Pointer, Byte, Store, end_regions, refill_region, number_of}

@@ -1,4 +1,5 @@
 -- What each form of statement does, over plain lists.
+-- No contract cites this file: it holds proofs.
 use Rattle.std.proofs.Common.{◌≡◌, refl, sym, ap, ◌∙◌, ℕ, zero, suc, List, [], ◌∷◌, length}
 use Rattle.std.specs.Prelude.{◌==◌, Bool, Option, if◌then◌else◌}
 use Rattle.word_ops.specs.Store.{Store, number_of}

@@ -1,5 +1,6 @@
 -- What an expression, a statement and a call give is of the kind that stands for it: so a value that reaches a narrow object is
 -- in its range, and each number is a word.
+-- No contract cites this file: it holds proofs.
 use Rattle.std.proofs.Common.{◌≡◌, refl, sym, subst, ℕ, zero, suc, List, [], ◌∷◌, arith}
 use Rattle.std.specs.Prelude.{◌-◌, ◌^◌, ◌%◌, Bool, true, false, Option, Some, None, slice_get}
 use Rattle.word_ops.specs.Store.{Value, Number, Store, number_of}

@@ -109,8 +109,7 @@ copy-copied s u p q n a units apart e =
     let same : length c.0 ≡ length ds = sym (length-units (n / a) a c.0 l) in
     let h = c.2 in
     let t = slice_set s h.region (with_cells h.object h.offset ds) in
-    let put : put_cells s p a ds ≡ Some t = ap (λ p. put_cells s p a ds) h.pointer ∙ ap (put_in s h.region h.offset a ds) h.at ∙ ap (λ m. only_if (may_access h.object m a h.offset) t) (sym same) ∙ ap (λ b. only_if b t) h.access in
-    (
+    let put : put_cells s p a ds ≡ Some t = ap (λ p. put_cells s p a ds) h.pointer ∙ ap (put_in s h.region h.offset a ds) h.at ∙ ap (λ m. only_if (may_access h.object m a h.offset) t) (sym same) ∙ ap (λ b. only_if b t) h.access in (
       t,
       ap (λ b. when (not (b || overlap_in_part p q n)) (option_and_then (put_cells s p a) (option_map (in_units (n / a) a) (cells_from s q n a)))) w.0 ∙ ap (λ b. when (not b) (option_and_then (put_cells s p a) (option_map (in_units (n / a) a) (cells_from s q n a)))) apart ∙ ap (λ o. option_and_then (put_cells s p a) (option_map (in_units (n / a) a) o)) c.1 ∙ put,
     )

@@ -1,4 +1,5 @@
 -- Laws of the depth: with more depth a run is the same where it was not too deep, and goes on from there where it was.
+-- No contract cites this file: it holds proofs.
 use Rattle.std.proofs.Common.{refl, ℕ, zero, suc, ◌≤◌, arith}
 use Rattle.std.specs.Prelude.{List, [], ◌∷◌, length, ◌==◌, slice_get}
 use Rattle.word_ops.specs.Values.{truth}

@@ -41,8 +41,7 @@ parts_are k r o (Part j q p ∷ cs) e =
     let x = and_both (j == k) ((q == r) && ((p == o) && are_parts (k + 1) r o cs)) e in
     let y = and_both (q == r) ((p == o) && are_parts (k + 1) r o cs) x.1 in
     let z = and_both (p == o) (are_parts (k + 1) r o cs) y.1 in
-    let h = parts_are (k + 1) r o cs z.1 in
-    (
+    let h = parts_are (k + 1) r o cs z.1 in (
       ap (λ j. Part j q p ∷ cs) (eqb-true j k x.0) ∙ ap (λ q. Part k q p ∷ cs) (eqb-true q r y.0) ∙ ap (λ p. Part k r p ∷ cs) (eqb-true p o z.0) ∙ ap (λ cs. Part k r o ∷ cs) h.0,
       omega (arith, h.1),
     )
@@ -166,8 +165,7 @@ unit_cells s k q p m cs e = go (slice_get s q) e
         let t = only_if-some (may_access g (b + m) b p) (take (b + m) (drop p g.cells)) cs e in
         let w = may_access-true g (b + m) b p t.0 in
         let first = MayAccess-true g b b p (record { live = w.live; aligned = w.aligned; within = omega (arith, w.within) }) in
-        let second = MayAccess-true g m b (p + b) (record { live = w.live; aligned = next_aligned k p w.aligned; within = omega (arith, w.within) }) in
-        (
+        let second = MayAccess-true g m b (p + b) (record { live = w.live; aligned = next_aligned k p w.aligned; within = omega (arith, w.within) }) in (
           ap (λ a. only_if a (take b (drop p g.cells))) first ∙ ap Some (sym (take-take b (b + m) (drop p g.cells) (omega arith)) ∙ ap (take b) t.1),
           ap (λ a. only_if a (take m (drop (p + b) g.cells))) second ∙ ap Some (ap (take m) (drop_more g.cells p b) ∙ sym (drop-take b m (drop p g.cells)) ∙ ap (drop b) t.1),
         )
@@ -262,8 +260,7 @@ module _ (k : Width) (r q : ℕ) where
           let two : slice_set s' r (with_cells now (o + b) rest) ≡ slice_set s r (with_cells g o (ds ++ rest)) =
           slice_set-twice s r now (with_cells now (o + b) rest)
           ∙ ap (λ cs. slice_set s r (record g { cells = cs })) (puts_together g.cells ds rest o b l (omega (arith, within, more))) in
-          let faded = set_fades s s r g g (with_cells g o (ds ++ rest)) (with_cells g o (first ++ rest)) (Fades-refl s) there there (with_cells_fade g g o (ds ++ rest) (first ++ rest) (CellsFade-append ds first rest rest i.fades (CellsFade-refl rest)) (RegionFades-refl (Some g))) in
-          (
+          let faded = set_fades s s r g g (with_cells g o (ds ++ rest)) (with_cells g o (first ++ rest)) (Fades-refl s) there there (with_cells_fade g g o (ds ++ rest) (first ++ rest) (CellsFade-append ds first rest rest i.fades (CellsFade-refl rest)) (RegionFades-refl (Some g))) in (
             s',
             may_write s k r o v ds g there modifiable access i.encoded,
             LoadsAndStores-fades k n s' r (o + b) q (p + b) (slice_set s' r (with_cells now (o + b) rest)) (slice_set s r (with_cells g o (first ++ rest))) (subst (λ u. Fades u (slice_set s r (with_cells g o (first ++ rest)))) (sym two) faded) behind,

@@ -1,4 +1,5 @@
 -- Laws of worlds: which changes keep one, and which values are those of its store.
+-- No contract cites this file: it holds proofs.
 use Rattle.std.proofs.Common.{◌≡◌, refl, sym, ◌∙◌, ap, subst, arith, ℕ, ◌^◌, ◌<◌, inl, inr, Bool, true, false, List, Option, Some, None}
 use Rattle.std.specs.Prelude.{◌-◌, ◌==◌, if◌then◌else◌, nat_eq}
 use Rattle.std.proofs.lemmas.Bool.{eqb-true, eq-eqb}

@@ -1,4 +1,5 @@
 -- Laws of what a load gives in a walk.
+-- No contract cites this file: it holds proofs.
 use Rattle.std.proofs.Common.{◌≡◌, refl, sym, ◌∙◌, ap, subst, arith, ℕ, suc, ◌+◌, ◌*◌, List, [], ◌∷◌, length, Option, Some, None}
 use Rattle.std.proofs.Math.Nat.{mod-mod}
 use Rattle.std.specs.Prelude.{◌/◌, ◌%◌, ◌^◌, unwrap_or}

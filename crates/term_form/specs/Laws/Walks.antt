@@ -1,4 +1,5 @@
 -- Laws of walks.
+-- No contract cites this file: it holds proofs.
 use Rattle.std.proofs.Common.{◌≡◌, refl, ℕ, zero, suc, List, [], ◌∷◌, ◌++◌, Option}
 use Rattle.std.specs.Prelude.{nat_le, slice_get}
 use Rattle.word_ops.specs.Store.{Value, Number, number_of, Store as Objects}

@@ -1,5 +1,6 @@
 -- Laws of the clock: a run takes of the input, the output and the ticks alone, and with a longer clock it is the same run,
 -- further.
+-- No contract cites this file: it holds proofs.
 use Rattle.std.proofs.Common.{◌≡◌, refl, sym, ap, ◌∙◌, subst, ℕ, zero, suc, ◌+◌, ◌≤◌, ◌<◌, List, [], ◌∷◌, ◌++◌, drop, arith, append_assoc}
 use Rattle.std.proofs.lemmas.List.{append-nil}
 use Rattle.std.specs.Prelude.{Option, Some, None, Bool, true, false, ◌%◌}

@@ -1,4 +1,5 @@
 -- Laws of two stores of which one has cells made Unset: the same changes keep them so.
+-- No contract cites this file: it holds proofs.
 use Rattle.std.proofs.Common.{◌≡◌, refl, sym, ap, ◌∙◌, subst, ℕ, zero, suc, ◌+◌, List, [], ◌∷◌, ◌++◌, length, take, drop, ⊎_elim}
 use Rattle.std.proofs.lemmas.Bool.Decides.{eqb_tells}
 use Rattle.std.specs.Prelude.{Option, Some, None, true, false, not, ◌&&◌, ◌%◌, ◌==◌, nat_le, replicate, slice_get, slice_set}

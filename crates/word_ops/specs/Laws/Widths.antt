@@ -1,4 +1,5 @@
 -- Laws of widths: which numbers an object of a width holds.
+-- No contract cites this file: it holds proofs.
 use Rattle.std.proofs.Common.{◌≡◌, ap, subst, ℕ, ◌+◌, ◌*◌, ◌<◌, arith}
 use Rattle.std.proofs.lemmas.Bool.Decides.{nat_tests}
 use Rattle.std.specs.Prelude.{Bool, ◌-◌, ◌%◌, ◌^◌, ◌&&◌, nat_le, if◌then◌else◌}

@@ -1,3 +1,5 @@
+-- Proof of the law `copies_and_fills` of src/laws.rt: each clause is a lemma of
+-- specs/Laws, or computes.
 use Rattle.core_lang.proofs.laws.copies_and_fills.Goals as goal
 use Rattle.core_lang.specs.Laws.Copies.{copied-cells, copied-copy, copy-copied}
 use Rattle.core_lang.specs.Laws.Units.{copied-units}

@@ -1,3 +1,5 @@
+-- Proof of `load` of src/terms.rt: the goals that the check leaves open,
+-- by lemmas of proofs/ and of the crates below.
 use Rattle.std.proofs.lemmas.Result.{on_err_weaker, IfOk-weaker}
 use Rattle.term_domain.proofs.Kept.{grown_extends, grown_pushed, same_state, on_ok}
 use Rattle.term_domain.proofs.Given.{pushed_node, load_given}

@@ -1,3 +1,5 @@
+-- Proof of `root` of src/terms.rt: the goals that the check leaves open,
+-- by lemmas of proofs/ and of the crates below.
 use Rattle.std.proofs.Common.{arith}
 use Rattle.std.proofs.lemmas.Result.{on_err_weaker, IfOk-weaker}
 use Rattle.term_form.specs.declared.term.Node.TheVariants.{Root}
