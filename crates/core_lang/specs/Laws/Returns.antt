@@ -1,6 +1,6 @@
 -- Laws of main: in a well-formed program its call gives a value. No contract cites this file: it holds proofs.
 use Rattle.std.proofs.Common.{◌≡◌, refl, sym, ◌∙◌, subst, ℕ, zero, suc, ◌≤◌, ⊎_elim, arith}
-use Rattle.std.proofs.lemmas.Bool.{false≢true, eq-eqb}
+use Rattle.std.proofs.lemmas.Bool.{false≢true, and_from, eq-eqb}
 use Rattle.std.proofs.lemmas.Bool.Decides.{eqb_tells}
 use Rattle.std.specs.Prelude.{Option, Some, None, Bool, true, false, ◌&&◌, ◌||◌, ◌==◌, List, [], ◌∷◌, length, slice_get}
 use Rattle.word_ops.specs.Store.{Value, Number, Pointer, Store}
@@ -31,10 +31,6 @@ or_right false b e = e
 or_neither : (a b : Bool) → a ≡ false → b ≡ false → a || b ≡ false
 or_neither false b e f = f
 or_neither true b e f = absurd (false≢true (sym e))
-
-and_all : (a b : Bool) → a ≡ true → b ≡ true → a && b ≡ true
-and_all true b e f = f
-and_all false b e f = e
 
 -- ---- how acts may end
 
@@ -96,7 +92,7 @@ module _ (a : Bool) (b : ℕ → Bool) (f : Does) (h : GoesSo a b f) where
         OnGives-then (λ t d. EndsSo a b d) (λ t d. EndsSo (a && x) (λ k. b k || y k) d) (f s w) (λ s w d. behind d g s w) (h s w) (λ s w d e. go d s w e)
       where
         more : (d : Flow) → a ≡ true → EndsSo x y d → EndsSo (a && x) (λ k. b k || y k) d
-        more Falls e q = and_all a x e q
+        more Falls e q = and_from a x e q
         more (Leaves k) e q = or_right (b k) (y k) q
         more (Returned None) e q = absurd q
         more (Returned (Some v)) e q = tt

@@ -1,7 +1,7 @@
 -- Laws of stores: what they change, and what a load then gives.
 -- No contract cites this file: it holds proofs.
 use Rattle.std.proofs.Common.{◌≡◌, refl, sym, ap, ◌∙◌, ℕ, zero, suc, ◌+◌, ◌≤◌, List, ◌++◌, length, take, drop, arith, ⊎_elim, length-append, length-drop}
-use Rattle.std.proofs.lemmas.Bool.{eq-eqb}
+use Rattle.std.proofs.lemmas.Bool.{and_from, eq-eqb, le-leb}
 use Rattle.std.proofs.lemmas.Bool.Decides.{eqb_tells, nat_tests}
 use Rattle.std.proofs.lemmas.List.{length-take-le}
 use Rattle.std.proofs.lemmas.Option.{none-some, same_Some, option_and_then_some}
@@ -93,14 +93,8 @@ may_access-true g n a o e =
 
 -- the same told as one truth
 pub MayAccess-true : (g : Region) (n a o : ℕ) → MayAccess g n a o → may_access g n a o ≡ true
-MayAccess-true g n a o h = both g.live ((o % a == 0) && nat_le (o + n) (length g.cells)) h.live (both (o % a == 0) (nat_le (o + n) (length g.cells)) (eq-eqb (o % a) 0 h.aligned) (le_told (o + n) (length g.cells) h.within))
-  where
-    both : (a b : Bool) → a ≡ true → b ≡ true → a && b ≡ true
-    both true b p q = q
-    both false b p q = p
-
-    le_told : (n m : ℕ) → n ≤ m → nat_le n m ≡ true
-    le_told n m le = grind (arith, nat_tests)
+MayAccess-true g n a o h =
+    and_from g.live ((o % a == 0) && nat_le (o + n) (length g.cells)) h.live (and_from (o % a == 0) (nat_le (o + n) (length g.cells)) (eq-eqb (o % a) 0 h.aligned) (le-leb (o + n) (length g.cells) h.within))
 
 pub length-with_cells : (g : Region) (o : ℕ) (cs : List Cell) → o + length cs ≤ length g.cells →
     length (with_cells g o cs).cells ≡ length g.cells
