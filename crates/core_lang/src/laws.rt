@@ -64,8 +64,8 @@ pub fn operations_on_pointers()
 
 /// Copies and fills: a copy by units puts all cells of the source, with their bytes modulo 2^8, but for cells that it makes
 /// Unset; of bytes below 2^8 it is the copy of all cells, and it is defined where that is and the ranges do not overlap in
-/// part. It is the loads and stores of its units, whatever they give of what they may give, but for cells that it makes
-/// Unset. An object that lives and is not constant is filled by stores of zeros.
+/// part. It is the loads and stores of its units, whatever they give of what they may give, but for cells that are
+/// Unset behind it, also in a store that has fewer cells Unset. An object that lives and is not constant is filled by stores of zeros.
 pub fn copies_and_fills()
     ensures cells { (s t : Store) (p q : Value) (n a : ℕ) → IsUnits n a → copied s p q n a ≡ Some t →
         (cs : List Cell) × (u : Store) × (cells_from s q n a ≡ Some cs) × (put_cells s p a (map reduced cs) ≡ Some u) × Fades u t }
@@ -73,9 +73,9 @@ pub fn copies_and_fills()
         cells_from s q n a ≡ Some cs → map reduced cs ≡ cs → (u : Store) × (copy s p q n a ≡ Some u) × Fades u t }
     ensures defined { (s u : Store) (p q : Value) (n a : ℕ) → IsUnits n a → overlap_in_part p q n ≡ false →
         copy s p q n a ≡ Some u → (t : Store) × (copied s p q n a ≡ Some t) }
-    ensures units { (s t : Store) (r o q p n a : ℕ) → IsUnits n a →
+    ensures units { (x s t : Store) (r o q p n a : ℕ) → IsUnits n a → Fades x s →
         copied s (Value.Pointer r o) (Value.Pointer q p) n a ≡ Some t →
-        LoadsAndStores (width_of_unit a) (n / a) s r o q p t }
+        LoadsAndStores (width_of_unit a) (n / a) x r o q p t }
     ensures filled { (s : Store) (r : ℕ) (g : Region) → slice_get s r ≡ Some g → g.live ≡ true → g.constant ≡ false →
         store_zeros s r 0 (widths_of_fill (length g.cells)) ≡ Some (refill_region s r (Byte 0)) }
 {}

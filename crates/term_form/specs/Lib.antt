@@ -11,4 +11,5 @@ pub mod Graphs
 pub mod Leads
 pub mod Best
 pub mod Examples
+pub mod Instances
 pub mod Laws

@@ -11,13 +11,14 @@ use Rattle.std.specs.Option.{option_map, option_or, option_and_then}
 use Rattle.word_ops.specs.declared.operation.Width.{Width}
 use Rattle.word_ops.specs.declared.operation.Width.TheVariants.{U8, S8, U16, S16, Word}
 use Rattle.word_ops.specs.Choice.{only_if, when}
-use Rattle.word_ops.specs.Store.{Value, Number, Pointer, Cell, Unset, Byte, Part, Region, Store}
-use Rattle.word_ops.specs.Access.{bytes_of, narrowed_to, holds_pointer, number_in, are_parts, pointer_in, decode, number_cells, pointer_cells, encode, may_access, cells_in, cells_from, cells_at, with_cells, put_in, put_cells, is_constant_in, initialise, write, AreDisjoint}
+use Rattle.word_ops.specs.Store.{Value, Number, Pointer, Cell, Unset, Byte, Part, Region, Store, Shape, shape}
+use Rattle.word_ops.specs.Access.{bytes_of, narrowed_to, holds_pointer, number_in, are_parts, pointer_in, decode, number_cells, pointer_cells, encode, may_access, cells_in, cells_from, cells_at, with_cells, put_in, put_cells, is_constant, is_constant_in, initialise, write, AreDisjoint}
 use Rattle.word_ops.specs.Changes.{CellsFade, Fades, HasBytes, HasNoByte, MayLoad}
 use Rattle.word_ops.specs.Laws.Lists.{and_both, only_if-some, slice_get-slice_set, slice_set-twice, slice_set-same}
 use Rattle.word_ops.specs.Laws.Accesses.{Puts, may_access-true, MayAccess-true, length-encode, length-with_cells}
-use Rattle.word_ops.specs.Laws.Fading.{CellsFade-refl}
-use Rattle.word_ops.specs.Laws.FadedStores.{CellsFade-append, RegionFades-refl, Fades-refl, Fades-trans, set_fades, with_cells_fade}
+use Rattle.word_ops.specs.Laws.Regions.{Fades-shapes}
+use Rattle.word_ops.specs.Laws.Fading.{CellsFade-refl, CellsFade-take, CellsFade-drop, CellsFade-decode, Fades-cells}
+use Rattle.word_ops.specs.Laws.FadedStores.{CellsFade-append, RegionFades-refl, Fades-refl, Fades-trans, Fades-puts, set_fades, with_cells_fade}
 use Rattle.word_ops.specs.Laws.Loads.{cells_behind, Puts-elsewhere, length-cells_from}
 use Rattle.core_lang.specs.Copying.{only_byte, cells_of_unit, in_units, overlap_in_part, copied, width_of_unit, LoadsAndStores}
 use Rattle.core_lang.specs.WellFormed.{IsUnits}
@@ -315,9 +316,84 @@ copied-at k s t r o q p n units e =
     ∙ ap (λ o. slice_set s u.region (with_cells u.object o (in_units (n / b) b h.cells))) at.1 ∙ u.after in
     subst (LoadsAndStores k (n / b) s r o q p) last (units-lead k r q (n / b) s o p h.cells u.object there m.live (sym (ap is_constant_in there) ∙ h.modifiable) (ap (λ o. o % b) at.1 ∙ m.aligned) (omega (arith, m.within, place, size, whole)) (subst (λ l. cells_from s (Pointer q p) l b ≡ Some h.cells) (sym whole) h.source) (subst (IsApart k r q o p) (sym whole) (far_apart k r q o p n h.apart)))
 
--- a copy is the loads and stores of its units, but for cells that it makes Unset
-pub copied-units : (s t : Store) (r o q p n a : ℕ) → IsUnits n a → copied s (Pointer r o) (Pointer q p) n a ≡ Some t →
+copied-units : (s t : Store) (r o q p n a : ℕ) → IsUnits n a → copied s (Pointer r o) (Pointer q p) n a ≡ Some t →
     LoadsAndStores (width_of_unit a) (n / a) s r o q p t
 copied-units s t r o q p n a units e =
     let w = unit_width a units.unit in
     subst (λ b. LoadsAndStores (width_of_unit a) (n / b) s r o q p t) w (copied-at (width_of_unit a) s t r o q p n (subst (IsUnits n) (sym w) units) (subst (λ b. copied s (Pointer r o) (Pointer q p) n b ≡ Some t) (sym w) e))
+
+-- ---- a copy in a store that has fewer cells Unset
+
+only_fade : (cs ds : List Cell) → CellsFade cs ds → CellsFade (map only_byte cs) (map only_byte ds)
+only_fade [] [] h = tt
+only_fade [] (d ∷ ds) h = absurd h
+only_fade (c ∷ cs) [] h = absurd h
+only_fade (c ∷ cs) (Unset ∷ ds) h = only_fade cs ds h
+only_fade (c ∷ cs) (Byte b ∷ ds) h = (ap only_byte h.0, only_fade cs ds h.1)
+only_fade (c ∷ cs) (Part k r o ∷ ds) h = only_fade cs ds h.1
+
+more_have_no_byte : (c : Cell) (cs : List Cell) → HasNoByte (c ∷ cs) → HasNoByte cs
+more_have_no_byte Unset cs h = h
+more_have_no_byte (Byte b) cs h = absurd h
+more_have_no_byte (Part k r o) cs h = h
+
+whole_fades : (cs ds : List Cell) → CellsFade cs ds → HasNoByte cs → CellsFade cs (map only_byte ds)
+whole_fades [] [] h n = tt
+whole_fades [] (d ∷ ds) h n = absurd h
+whole_fades (c ∷ cs) [] h n = absurd h
+whole_fades (c ∷ cs) (Unset ∷ ds) h n = whole_fades cs ds h (more_have_no_byte c cs n)
+whole_fades (c ∷ cs) (Byte b ∷ ds) h n = absurd (subst (λ c. HasNoByte (c ∷ cs)) h.0 n)
+whole_fades (c ∷ cs) (Part k r o ∷ ds) h n = whole_fades cs ds h.1 (more_have_no_byte c cs n)
+
+unit_fade : (cs ds : List Cell) → CellsFade cs ds →
+    CellsFade (cells_of_unit cs (pointer_in cs)) (cells_of_unit ds (pointer_in ds))
+unit_fade cs ds h = go (pointer_in cs) (pointer_in ds) refl refl
+  where
+    go : (x y : Option Value) → pointer_in cs ≡ x → pointer_in ds ≡ y → CellsFade (cells_of_unit cs x) (cells_of_unit ds y)
+    go None None e f = only_fade cs ds h
+    go (Some u) None e f = whole_fades cs ds h (subst HasNoByte (sym (pointer_is cs u e).cells) tt)
+    go x (Some v) e f =
+        let w = pointer_is ds v f in
+        let d : decode Word ds ≡ Some v =
+        ap (λ x. option_or (option_map (λ n. Number (narrowed_to Word n)) x) (pointer_in ds)) (ap number_in w.cells) ∙ f in
+        let same = CellsFade-decode Word cs ds v h d in
+        let there : x ≡ Some v = sym e ∙ ap pointer_in same ∙ f in
+        subst (λ x. CellsFade (cells_of_unit cs x) ds) (sym there) h
+
+units_fade : (n a : ℕ) (cs ds : List Cell) → CellsFade cs ds → CellsFade (in_units n a cs) (in_units n a ds)
+units_fade zero a cs ds h = tt
+units_fade (suc n) a cs ds h =
+    CellsFade-append (cells_of_unit (take a cs) (pointer_in (take a cs))) (cells_of_unit (take a ds) (pointer_in (take a ds))) (in_units n a (drop a cs)) (in_units n a (drop a ds)) (unit_fade (take a cs) (take a ds) (CellsFade-take a cs ds h)) (units_fade n a (drop a cs) (drop a ds) (CellsFade-drop a cs ds h))
+
+abbrev is_constant_shape : Option Shape → Bool
+is_constant_shape None = false
+is_constant_shape (Some z) = z.constant
+
+constant_told : (x : Option Region) → is_constant_in x ≡ is_constant_shape (option_map shape x)
+constant_told None = refl
+constant_told (Some g) = refl
+
+constant_faded : (x s : Store) (p : Value) → Fades x s → is_constant x p ≡ is_constant s p
+constant_faded x s (Number n) f = refl
+constant_faded x s (Pointer r o) f =
+    constant_told (slice_get x r) ∙ ap is_constant_shape (sym (Fades-shapes x s f r)) ∙ sym (constant_told (slice_get s r))
+
+-- a copy that is defined in the store with Unset cells is defined in the other one too
+pub Fades-copied : (x s t : Store) (p q : Value) (n a : ℕ) → Fades x s → copied s p q n a ≡ Some t →
+    (u : Store) × (copied x p q n a ≡ Some u) × Fades u t
+Fades-copied x s t p q n a f e =
+    let h = copied-some s t p q n a e in
+    let c = Fades-cells x s q n a h.cells f h.source in
+    let d = Fades-puts x s t p a (in_units (n / a) a c.0) (in_units (n / a) a h.cells) f (units_fade (n / a) a c.0 h.cells c.2) h.target in (
+      d.0,
+      ap (λ b. when (not (b || overlap_in_part p q n)) (option_and_then (put_cells x p a) (option_map (in_units (n / a) a) (cells_from x q n a)))) (constant_faded x s p f ∙ h.modifiable) ∙ ap (λ b. when (not b) (option_and_then (put_cells x p a) (option_map (in_units (n / a) a) (cells_from x q n a)))) h.apart ∙ ap (λ o. option_and_then (put_cells x p a) (option_map (in_units (n / a) a) o)) c.1 ∙ d.1,
+      d.2,
+    )
+
+-- a copy is the loads and stores of its units, but for cells that are Unset behind it, also from a store that has fewer cells
+-- Unset
+pub copied-lead : (x s t : Store) (r o q p n a : ℕ) → IsUnits n a → Fades x s →
+    copied s (Pointer r o) (Pointer q p) n a ≡ Some t → LoadsAndStores (width_of_unit a) (n / a) x r o q p t
+copied-lead x s t r o q p n a units f e =
+    let d = Fades-copied x s t (Pointer r o) (Pointer q p) n a f e in
+    LoadsAndStores-fades (width_of_unit a) (n / a) x r o q p d.0 t d.2 (copied-units x d.0 r o q p n a units d.1)

@@ -2,7 +2,7 @@
 -- specs/Laws, or computes.
 use Rattle.core_lang.proofs.laws.copies_and_fills.Goals as goal
 use Rattle.core_lang.specs.Laws.Copies.{copied-cells, copied-copy, copy-copied}
-use Rattle.core_lang.specs.Laws.Units.{copied-units}
+use Rattle.core_lang.specs.Laws.Units.{copied-lead}
 use Rattle.core_lang.specs.Laws.Filling.{store_zeros-fill}
 
 pub returns-clause-cells : goal.returns-clause-cells
@@ -15,7 +15,7 @@ pub returns-clause-defined : goal.returns-clause-defined
 returns-clause-defined c = copy-copied
 
 pub returns-clause-units : goal.returns-clause-units
-returns-clause-units c = copied-units
+returns-clause-units c = copied-lead
 
 pub returns-clause-filled : goal.returns-clause-filled
 returns-clause-filled c = store_zeros-fill
