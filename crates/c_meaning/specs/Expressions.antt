@@ -1,7 +1,7 @@
 -- What an expression does and gives (C11 6.5). Operands are evaluated from left to right, and each effect is complete before
 -- what follows (the profile's choice where C11 6.5p2, p3 leaves the order open).
 use Rattle.std.specs.Prelude.{ℕ, ◌%◌, List, [], ◌∷◌, Option, Some, None}
-use Rattle.word_ops.specs.Store.{Value, Number, Pointer, Store}
+use Rattle.word_ops.specs.Store.{Value, Number, Store, number_of}
 use Rattle.word_ops.specs.Values.{truth}
 use Rattle.word_ops.specs.Run.{Outside, Run, Gives, then_do, given, branch, tick, put_byte, get_byte, exit_with}
 use Rattle.c_tree.specs.declared.typed.expression.TExpr.{TExpr, Row_of-TExpr, end_of-TExpr, more_of-TExpr, Row_of-Step, end_of-Step, more_of-Step, Row_of-Arm, end_of-Arm, more_of-Arm, Row_of-Target, end_of-Target, more_of-Target}
@@ -24,11 +24,6 @@ Calls = Invocation → Outside → Run Store (Option Value)
 -- gives what an operator gives
 abbrev pub gives_changed : Outside → Changed → Run Store Value
 gives_changed w h = Gives h.store w h.value
-
--- the number that a value is
-abbrev pub number_of : Value → Option ℕ
-number_of (Number n) = Some n
-number_of (Pointer r o) = None
 
 -- puts a value out and gives the byte (C11 7.21.7.8p3)
 abbrev pub put_value : Value → Store → Outside → Run Store Value

@@ -1,4 +1,5 @@
 -- Laws of the definitions beside this file.
+-- No contract cites these files: they hold proofs.
 pub mod Congruence
 pub mod Related
 pub mod Clock

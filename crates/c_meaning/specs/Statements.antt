@@ -1,6 +1,6 @@
 -- What a statement does (C11 6.8).
 use Rattle.std.specs.Prelude.{ℕ, zero, suc, Bool, true, false, ◌||◌, ◌==◌, List, [], ◌∷◌, ◌++◌, length, map, Option, Some, None, slice_get, if◌then◌else◌}
-use Rattle.word_ops.specs.Store.{Value, Pointer, Byte, Region, Store, new_region, unset_cells, end_regions, refill_region}
+use Rattle.word_ops.specs.Store.{Value, Pointer, Byte, Region, Store, new_region, unset_cells, end_regions, refill_region, number_of}
 use Rattle.word_ops.specs.Access.{put_cells, initialise}
 use Rattle.word_ops.specs.Values.{truth}
 use Rattle.word_ops.specs.Run.{Outside, Run, Gives, then_do, given, branch, Turn, Again, Over, loop}
@@ -17,7 +17,7 @@ use Rattle.c_tree.specs.declared.typed.statement.Label.TheVariants as label
 use Rattle.c_tree.specs.declared.typed.unit.Object.{Object}
 use Rattle.c_tree.specs.TypedKinds.{width_of}
 use Rattle.c_meaning.specs.Environment.{Environment, with_objects}
-use Rattle.c_meaning.specs.Expressions.{Calls, number_of, value}
+use Rattle.c_meaning.specs.Expressions.{Calls, value}
 
 -- how a statement is left: at its end, or by a jump (C11 6.8.6)
 pub data Done : Type 0 where

@@ -4,6 +4,7 @@ ghost use Rattle.word_ops.specs.Store.{Value, Store};
 ghost use Rattle.word_ops.specs.Run.{Outside, Run, End};
 ghost use Rattle.word_ops.specs.Outcome.{Outcome, IsFurther, IsWithinClock};
 ghost use Rattle.word_ops.specs.Clock.{RunReaches, IsTimed};
+ghost use Rattle.word_ops.specs.Depth.{IsDeeper};
 ghost use Rattle.c_tree.specs.declared.typed.expression.TExpr.{TExpr};
 ghost use Rattle.c_tree.specs.declared.typed.unit.Typed.{Typed};
 ghost use Rattle.c_tree.specs.TypedKinds.{Kind, Names, IsOfKind};
@@ -11,7 +12,6 @@ ghost use Rattle.c_tree.specs.TypedUnits.{signature_of, IsUnit};
 ghost use Rattle.c_meaning.specs.Environment.{Environment};
 ghost use Rattle.c_meaning.specs.Expressions.{Invocation, value};
 ghost use Rattle.c_meaning.specs.Units.{calls, run_of_unit, outcome_of_unit};
-ghost use Rattle.c_meaning.specs.Depth.{IsDeeper};
 ghost use Rattle.c_meaning.specs.Kinds.{IsValueOf, IsResultIn, GivesSuch};
 
 /// A run takes input from the front, appends to the output and takes ticks, and changes nothing else

@@ -1,5 +1,5 @@
--- What the acts of a function count for, how many variables they assign, and how many bytes its objects take: the numbers in
--- which limits are stated (the profile's limits).
+-- What the acts of a function count for, and how many variables they assign: the numbers in which limits are stated (the
+-- profile's limits).
 use Rattle.std.specs.Prelude.{ℕ, zero, suc, ◌+◌, ◌*◌, ◌/◌, nat_lt, List, [], ◌∷◌, length, Option, Some, None, slice_get}
 use Rattle.word_ops.specs.Word.{number_of_truth}
 use Rattle.core_lang.specs.declared.act.Core.{Core, Row_of-Core, end_of-Core, more_of-Core}
@@ -52,13 +52,3 @@ assigned_below (suc x) xs = number_of_truth (nat_lt 0 (places_in x xs)) + assign
 -- how many variables the acts of a function assign
 abbrev pub variables_assigned : CoreFunction → ℕ
 variables_assigned g = assigned_below g.vars g.body
-
--- ---- objects
-
--- an object takes its size up to the next multiple of 8, and 8 bytes that keep it apart from the next one
-abbrev pub bytes_of_object : ℕ → ℕ
-bytes_of_object size = (size + 7) / 8 * 8 + 8
-
-abbrev pub bytes_of_objects : (sizes : List ℕ) → ℕ
-bytes_of_objects [] = 0
-bytes_of_objects (size ∷ sizes) = bytes_of_object size + bytes_of_objects sizes

@@ -3,6 +3,7 @@ use Rattle.std.specs.Prelude.{◌%◌, ◌≡◌, ◌≢◌, ℕ, zero, suc, ◌
 use Rattle.std.proofs.Common.{refl, sym, ap, ◌∙◌, subst, arith, inl, inr, ⊎_elim}
 use Rattle.std.proofs.lemmas.Bool.Decides.{eqb_tells}
 use Rattle.std.proofs.lemmas.Option.{none-some, same_Some}
+use Rattle.word_ops.specs.Stack.{bytes_of_objects}
 use Rattle.word_ops.specs.Word.{number_of_truth}
 use Rattle.core_lang.specs.declared.act.Atom.TheVariants as at
 use Rattle.core_lang.specs.declared.act.Core.{Core}
@@ -11,7 +12,7 @@ use Rattle.core_lang.specs.declared.program.CoreFunction.{CoreFunction}
 use Rattle.core_lang.specs.declared.program.Program.{Program}
 use Rattle.core_lang.specs.declared.program.StaticObject.{StaticObject}
 use Rattle.core_lang.specs.WellFormed.{AreActsIn, IsUnits, IsFunctionIn, ArePartsIn, IsWellFormed, places_in}
-use Rattle.core_lang.specs.Counts.{count_of_acts, assigned_below, bytes_of_objects}
+use Rattle.core_lang.specs.Counts.{count_of_acts, assigned_below}
 use Rattle.core_lang.specs.Addresses.{LieApart, IsLayoutOf}
 use Rattle.core_lang.specs.Examples.{computed, spacious, down, own, swap, objects, program, sum}
 
@@ -100,7 +101,7 @@ functions_formed (suc (suc (suc (suc f)))) g e = absurd (past f g e)
 pub sum_formed : IsWellFormed (program sum)
 unfolding computed program sum down own swap objects
 sum_formed = record {
-  main = (refl, refl);
+  main = record { params = refl; returns = refl; ends = refl; gives = refl };
   functions = functions_formed;
   objects = λ x o e. at_each (λ x o. ArePartsIn (program sum) o.size o.parts) objects x o ((omega arith, omega arith, (inl (omega arith), tt), (omega arith, omega arith, tt, tt)), ((omega arith, (refl, omega arith), tt, tt), tt)) e;
 }

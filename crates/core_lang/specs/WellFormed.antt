@@ -1,6 +1,6 @@
 -- When a core program is well formed: each number names something that is there, and each temporary is assigned in one place
 -- and read only behind it (the profile's rules on core code).
-use Rattle.std.specs.Prelude.{◌≡◌, ℕ, suc, ◌+◌, ◌*◌, ◌%◌, ◌^◌, ◌<◌, ◌≤◌, ◌⊎◌, ◌==◌, true, List, [], ◌∷◌, ◌++◌, length, Option, Some, None, slice_get}
+use Rattle.std.specs.Prelude.{◌≡◌, ℕ, suc, ◌+◌, ◌*◌, ◌%◌, ◌^◌, ◌<◌, ◌≤◌, ◌⊎◌, ◌==◌, Bool, true, false, ◌&&◌, ◌||◌, List, [], ◌∷◌, ◌++◌, length, Option, Some, None, slice_get}
 use Rattle.word_ops.specs.Word.{number_of_truth}
 use Rattle.core_lang.specs.declared.act.Atom.{Atom}
 use Rattle.core_lang.specs.declared.act.Atom.TheVariants as at
@@ -135,10 +135,68 @@ pub record IsFunctionIn (p : Program) (g : CoreFunction) : Type 0 where
   -- a temporary is assigned in one place
   pub once : (x : ℕ) → g.vars ≤ x → places_in x g.body ≤ 1
 
--- main takes nothing and gives a status back (C11 5.1.2.2.1p1)
+-- ---- paths through acts
+
+abbrev mutual
+  -- whether a break in acts may leave so many blocks and loops further out, behind the one that they stand in
+  pub may_leave : ℕ → Core → Bool
+  may_leave k (c.Break j) = j == k
+  may_leave k (c.Block' n all) = row_may_leave (suc k) all
+  may_leave k (c.Loop' n all) = row_may_leave (suc k) all
+  may_leave k (c.If' v n first m second) = row_may_leave k first || row_may_leave k second
+  may_leave k a = false
+
+  pub row_may_leave : ℕ → {n : _} → Row_of-Core n → Bool
+  row_may_leave k end_of-Core = false
+  row_may_leave k (more_of-Core a rest) = may_leave k a || row_may_leave k rest
+
+abbrev mutual
+  -- whether there may be a path through acts: to what stands behind them
+  pub may_fall : Core → Bool
+  may_fall (c.Block' n all) = row_may_fall all || row_may_leave 0 all
+  may_fall (c.Loop' n all) = row_may_leave 0 all
+  may_fall (c.If' v n first m second) = row_may_fall first || row_may_fall second
+  may_fall (c.Break k) = false
+  may_fall (c.Return v) = false
+  may_fall (c.Exit v) = false
+  may_fall a = true
+
+  pub row_may_fall : {n : _} → Row_of-Core n → Bool
+  row_may_fall end_of-Core = true
+  row_may_fall (more_of-Core a rest) = may_fall a && row_may_fall rest
+
+abbrev pub acts_may_fall : List Core → Bool
+acts_may_fall [] = true
+acts_may_fall (a ∷ rest) = may_fall a && acts_may_fall rest
+
+abbrev mutual
+  -- each return in acts gives a value back
+  pub all_give : Core → Bool
+  all_give (c.Return None) = false
+  all_give (c.Block' n all) = row_all_give all
+  all_give (c.Loop' n all) = row_all_give all
+  all_give (c.If' v n first m second) = row_all_give first && row_all_give second
+  all_give a = true
+
+  pub row_all_give : {n : _} → Row_of-Core n → Bool
+  row_all_give end_of-Core = true
+  row_all_give (more_of-Core a rest) = all_give a && row_all_give rest
+
+abbrev pub acts_all_give : List Core → Bool
+acts_all_give [] = true
+acts_all_give (a ∷ rest) = all_give a && acts_all_give rest
+
+-- main takes nothing and gives a status back (C11 5.1.2.2.1p1), on every path: its closing brace is not reached, and each
+-- return in it has a value
+pub record IsMainFunction (g : CoreFunction) : Type 0 where
+  pub params : g.params ≡ 0
+  pub returns : g.returns ≡ true
+  pub ends : acts_may_fall g.body ≡ false
+  pub gives : acts_all_give g.body ≡ true
+
 abbrev pub IsMain : Option CoreFunction → Type 0
 IsMain None = ⊥
-IsMain (Some g) = (g.params ≡ 0) × (g.returns ≡ true)
+IsMain (Some g) = IsMainFunction g
 
 -- ---- static objects
 

@@ -1,3 +1,6 @@
+//! The acts of core code and what they take. What each does stands in `specs/Acts`, and when it is well
+//! formed in `specs/WellFormed`.
+
 use word_ops::{Items, Op, Width};
 
 /// What an act takes: the value of a variable or a temporary, or a value that is known beforehand.

@@ -1,11 +1,12 @@
 //! Examples, each computed from the definitions alone. The functions do nothing: each is here for what its contract
 //! says. The programs stand in `specs/Examples`, each beside the C that it stands for.
 ghost use Rattle.std.specs.Prelude.{◌≡◌, ℕ, ◌≤◌, [], ◌∷◌};
+ghost use Rattle.word_ops.specs.Stack.{bytes_of_objects};
 ghost use Rattle.word_ops.specs.Run.{End};
 ghost use Rattle.core_lang.specs.declared.program.CoreFunction.{CoreFunction};
 ghost use Rattle.core_lang.specs.declared.program.Program.{Program};
 ghost use Rattle.core_lang.specs.WellFormed.{AreActsIn, places_in, IsUnits, IsWellFormed};
-ghost use Rattle.core_lang.specs.Counts.{count_of_acts, assigned_below, bytes_of_objects};
+ghost use Rattle.core_lang.specs.Counts.{count_of_acts, assigned_below};
 ghost use Rattle.core_lang.specs.Addresses.{IsLayoutOf};
 ghost use Rattle.core_lang.specs.Examples.{adds, breaks, calls_none, calls_with_one, compares, compares_dead, compares_live, copies, copies_bytes, copies_on, differs, divides, divides_least, drops_nothing, echoes, ends, enters_other, enters_twice, exits_with_pointer, falls, fills, follows_table, forever, is_null, keeps_dead, moves, nested_loops, outcome, program, puts_and_exits, puts_pointer, reads_dead, reads_new, reads_pointer, reads_string, reads_whole, recursion, returns_large, shifts, shifts_signed, spacious, starts_as_zero, stores_pointer, sum, swapped, swaps, tests_dead, tests_live, through_null, undefined, uses_nothing, writes_string, writes_table};
 ghost use Rattle.core_lang.specs.Instances.{behind_branch, in_branch, in_both, out_of_one, out_of_two};

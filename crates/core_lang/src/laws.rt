@@ -1,8 +1,8 @@
 //! Laws of the definitions that contracts cite. The functions do nothing: each is here for what its contract says, and
 //! the lemmas that other crates' proofs cite stand in `specs/Laws`.
-ghost use Rattle.std.specs.Prelude.{◌≡◌, ◌≢◌, ℕ, ◌+◌, ◌<◌, ◌≤◌, List, ◌++◌, Some, None, true, false, slice_get, length};
-ghost use Rattle.word_ops.specs.Store.{Value, Byte, Region, Store, refill_region};
-ghost use Rattle.word_ops.specs.Access.{copy};
+ghost use Rattle.std.specs.Prelude.{◌≡◌, ◌≢◌, ℕ, ◌+◌, ◌<◌, ◌≤◌, ◌/◌, List, ◌++◌, map, Option, Some, None, true, false, slice_get, length};
+ghost use Rattle.word_ops.specs.Store.{Value, Cell, Byte, Region, Store, refill_region};
+ghost use Rattle.word_ops.specs.Access.{cells_from, put_cells, copy};
 ghost use Rattle.word_ops.specs.Values.{value_of_operation};
 ghost use Rattle.word_ops.specs.Addresses.{IsValueIn};
 ghost use Rattle.word_ops.specs.Changes.{SameRegions, Fades};
@@ -19,9 +19,9 @@ ghost use Rattle.core_lang.specs.Layout.{Layout};
 ghost use Rattle.core_lang.specs.State.{State, Activation, value_of_atom, argument};
 ghost use Rattle.core_lang.specs.Acts.{Invocation, Calls, value_of_pointers, operation_of, in_turn, as_block, as_loop, by_truth, turn_of, act, acts};
 ghost use Rattle.core_lang.specs.Run.{calls, first_call, program_from, run_of_core};
-ghost use Rattle.core_lang.specs.Depth.{GoesDeeper};
+ghost use Rattle.word_ops.specs.Depth.{GoesDeeper};
 ghost use Rattle.core_lang.specs.Following.{OnGives};
-ghost use Rattle.core_lang.specs.Copying.{overlap_in_part, copied};
+ghost use Rattle.core_lang.specs.Copying.{reduced, overlap_in_part, copied, width_of_unit, LoadsAndStores};
 ghost use Rattle.core_lang.specs.Filling.{widths_of_fill, store_zeros};
 ghost use Rattle.core_lang.specs.Counts.{count_of_acts};
 ghost use Rattle.core_lang.specs.WellFormed.{IsUnits, AreActsIn, assigned_behind, places_in, IsFunctionIn, IsWellFormed};
@@ -62,13 +62,20 @@ pub fn operations_on_pointers()
         value_of_pointers s op x y ≡ Some v → IsValueIn s v }
 {}
 
-/// Copies and fills: a copy by units is that of all cells, but for cells that it makes Unset, and is defined where that
-/// is and the ranges do not overlap in part. An object that lives and is not constant is filled by stores of zeros.
+/// Copies and fills: a copy by units puts all cells of the source, with their bytes modulo 2^8, but for cells that it makes
+/// Unset; of bytes below 2^8 it is the copy of all cells, and it is defined where that is and the ranges do not overlap in
+/// part. It is the loads and stores of its units, whatever they give of what they may give, but for cells that are
+/// Unset behind it, also in a store that has fewer cells Unset. An object that lives and is not constant is filled by stores of zeros.
 pub fn copies_and_fills()
     ensures cells { (s t : Store) (p q : Value) (n a : ℕ) → IsUnits n a → copied s p q n a ≡ Some t →
-        (u : Store) × (copy s p q n a ≡ Some u) × Fades u t }
+        (cs : List Cell) × (u : Store) × (cells_from s q n a ≡ Some cs) × (put_cells s p a (map reduced cs) ≡ Some u) × Fades u t }
+    ensures bytes { (s t : Store) (p q : Value) (n a : ℕ) (cs : List Cell) → IsUnits n a → copied s p q n a ≡ Some t →
+        cells_from s q n a ≡ Some cs → map reduced cs ≡ cs → (u : Store) × (copy s p q n a ≡ Some u) × Fades u t }
     ensures defined { (s u : Store) (p q : Value) (n a : ℕ) → IsUnits n a → overlap_in_part p q n ≡ false →
-        copy s p q n a ≡ Some u → (t : Store) × (copied s p q n a ≡ Some t) × Fades u t }
+        copy s p q n a ≡ Some u → (t : Store) × (copied s p q n a ≡ Some t) }
+    ensures units { (x s t : Store) (r o q p n a : ℕ) → IsUnits n a → Fades x s →
+        copied s (Value.Pointer r o) (Value.Pointer q p) n a ≡ Some t →
+        LoadsAndStores (width_of_unit a) (n / a) x r o q p t }
     ensures filled { (s : Store) (r : ℕ) (g : Region) → slice_get s r ≡ Some g → g.live ≡ true → g.constant ≡ false →
         store_zeros s r 0 (widths_of_fill (length g.cells)) ≡ Some (refill_region s r (Byte 0)) }
 {}
@@ -130,6 +137,12 @@ pub fn runs_and_the_outside()
         run_of_core l p input depth clock ≡ run_of_core m p input depth clock }
     ensures reaches { (l : Layout) (p : Program) (depth : ℕ) (w u : Outside) (e : End) →
         program_from l p depth w ≡ Run.Ends e u → Reaches w u }
+{}
+
+/// Main: in a well-formed program its call gives a value, where it gives back at all.
+pub fn main_gives_a_value()
+    ensures { (l : Layout) (p : Program) (depth : ℕ) (w : Outside) → IsWellFormed p →
+        OnGives (λ (t : Store) (v : Option Value). (x : Value) × (v ≡ Some x)) (calls l p.functions depth (first_call l p) w) }
 {}
 
 /// Calls and the store: a call leaves the regions that were there with their sizes, flags and addresses. With a layout

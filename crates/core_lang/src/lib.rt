@@ -20,6 +20,3 @@ mod program;
 
 pub use act::{Atom, Core, PointerOp};
 pub use program::{CoreFunction, Part, Program, Start, StaticObject};
-
-#[cfg(test)]
-mod tests;

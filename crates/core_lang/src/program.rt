@@ -1,3 +1,6 @@
+//! Functions, static objects and programs of core code. How a program runs stands in `specs/Run`, and when it
+//! is well formed in `specs/WellFormed`.
+
 use crate::act::Core;
 use word_ops::Items;
 

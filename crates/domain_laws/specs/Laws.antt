@@ -1,2 +1,3 @@
 -- Laws of the definitions beside this file, by subject.
+-- No contract cites these files: they hold proofs.
 pub mod Worlds

@@ -1,3 +1,6 @@
+//! What `assume` answers: whether a term can have a truth in a world for which the domain
+//! stands.
+
 /// Whether a term can have a truth.
 #[derive(Clone, Copy, Debug, PartialEq, Eq)]
 pub enum Chance {

@@ -1,3 +1,6 @@
+//! The trait of an abstract domain: its calls with what each promises, and its laws. What its clients need of it
+//! stands in docs/DOMAIN_CLIENTS.md.
+
 ghost use Rattle.std.specs.Prelude.{◌≡◌, ◌↔◌, ℕ, Bool, true, false, IfOk, OnOk, OnErr, IsTrue, Some};
 ghost use Rattle.word_ops.specs.declared.operation.Op.{Op};
 ghost use Rattle.word_ops.specs.declared.operation.Width.{Width};
@@ -87,6 +90,7 @@ pub trait Domain: Drop {
         ensures adds { OnOk result (Adds light recalls self.old self.new) }
         ensures brings { IfOk result (λ t. Brings has self.old self.new t.0) }
         ensures node { IfOk result (λ t. (has self.old t.0 → ⊥) → node_of self.new t.0 ≡ nodes.Root root) }
+        ensures fresh { IfOk result (λ t. (IsObject root → ⊥) → has self.old t.0 → ⊥) }
         ensures object { IfOk result (λ t. IsObject root → node_of self.new t.0 ≡ nodes.Root root) }
         ensures alone { IfOk result (λ t. (has self.old t.0 → ⊥) → IsObject root → HasNodeAlone has node_of self.old self.new t.0) }
         ensures value { IfOk result (λ t. Gives stands has self.old self.new t.0 (λ w v. IsOfRoot w root v)) };
@@ -107,7 +111,8 @@ pub trait Domain: Drop {
         ensures value { IfOk result (λ t. Gives stands has self.old self.new t.0 (λ w v. value_of_operation w.store op (w.values a.0) (w.values b.0) ≡ Some v)) };
 
     /// A term for what a load gives here, wherever it is defined. Where loads are recalled, one that is brings no term into
-    /// scope.
+    /// scope. A domain over another one leaves the facts of the answer as that one tells them: a term that was there need not
+    /// have a word in the range of the width.
     fn load(&mut self, width: Width, pointer: Term) -> Result<Term, Memory>
         requires { has self.old pointer.0 }
         ensures same { OnErr result (Same stands has node_of facts_of marked light recalls self.old self.new) }

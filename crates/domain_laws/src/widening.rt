@@ -1,3 +1,6 @@
+//! Widening: how facts that were assumed at the head of a loop give way to those of an edge back, by thresholds or to
+//! the ends.
+
 ghost use Rattle.std.specs.Prelude.{◌≡◌, ◌≤◌, ◌≤ℤ◌, IfSome, int_le, nat_le, find, reverse, if◌then◌else◌, pos, negsuc, ◌-◌, ◌^◌};
 ghost use Rattle.term_form.specs.Narrower.{IsNarrower, KnowsBitsOf, RefinesRest};
 ghost use Rattle.domain_laws.specs.Widening.{IsWidened, IsWidenedByThreshold, IsWidenedToExtremes, HasBitsOrNone, HasRestOrNone, signed_below, signed_above, unsigned_below, unsigned_above};
@@ -209,6 +212,3 @@ fn with_rest_or_none(assumed: &Facts, back: &Facts) -> Facts
         anything()
     }
 }
-
-#[cfg(test)]
-mod tests;

@@ -1,16 +1,24 @@
 -- What the calls that answer a term promise of it.
-use Rattle.std.proofs.Common.{rules, ◌≡◌, ◌≢◌, refl, sym, ◌∙◌, ap, subst, arith, ℕ, ◌<◌, ◌^◌, inl, inr, ◌⊎◌, List, length, Some, None}
-use Rattle.std.specs.Prelude.{negsuc, pos, ◌≤ℤ◌, ◌-◌}
+use Rattle.std.proofs.Common.{rules, ◌≡◌, ◌≢◌, refl, sym, ◌∙◌, ap, subst, arith, ℕ, ◌<◌, ◌≤◌, ◌^◌, bit_and, Option, true, inl, inr, ◌⊎◌, List, length, Some, None}
+use Rattle.std.specs.Prelude.{negsuc, pos, ◌≤ℤ◌, ◌-◌, ◌%◌}
+use Rattle.std.specs.Int.Bits.{and_zero_r}
+use Rattle.std.proofs.Math.Nat.{mod-eq_of_lt}
+use Rattle.std.proofs.lemmas.Bool.{false≢true, eqb-true}
+use Rattle.std.proofs.lemmas.Nat.{and_assoc, and_mask}
 use Rattle.std.proofs.lemmas.Int.{ints, to_z_pos}
 use Rattle.std.specs.Int.{w32}
 use Rattle.term_form.specs.Interval.{signed}
 use Rattle.word_ops.specs.declared.operation.Width.{Width}
+use Rattle.word_ops.specs.declared.operation.Width.TheVariants.{U8, S8, U16, S16, Word}
 use Rattle.word_ops.specs.declared.operation.Op.{Op}
 use Rattle.word_ops.specs.Store.{Value, Number, Pointer, Cell, Store}
-use Rattle.word_ops.specs.Access.{decode, cells_at}
+use Rattle.word_ops.specs.Access.{narrowed_to, is_kept_by, IsInRange, decode, cells_at}
 use Rattle.word_ops.specs.Values.{value_of_operation}
 use Rattle.word_ops.specs.Addresses.{word_of_value, IsValueIn}
 use Rattle.word_ops.specs.Changes.{MayLoad, IsInRangeUnless}
+use Rattle.word_ops.specs.Laws.Widths.{narrowed_to-in_range}
+use Rattle.word_ops.specs.Laws.Operations.{signed_value-word_of_integer}
+use Rattle.word_ops.specs.Laws.Loads.{decode-kept}
 use Rattle.word_ops.specs.Laws.Words.{word_of_value-small, operation-in}
 use Rattle.term_form.specs.declared.term.Term.{Term}
 use Rattle.term_form.specs.declared.term.Root.{Root}
@@ -25,7 +33,7 @@ use Rattle.domain_laws.specs.World.{World, IsByteOrEnd, IsOfRoot, with_term}
 use Rattle.domain_laws.specs.Promises.{IsObject, IsOverScope, NodeSays}
 use Rattle.domain_laws.specs.Laws.Worlds.{IsOfRoot-inside, MayLoad-inside, IsAtHome-one}
 use Rattle.term_domain.specs.Keys.{own_place}
-use Rattle.term_domain.specs.Rows.{Rows, node_in, facts_in, node_at, facts_at, IsNew, IsShared, TableStands, facts_of_root}
+use Rattle.term_domain.specs.Rows.{Rows, node_in, facts_in, node_at, facts_at, IsNew, IsShared, TableStands, facts_of_root, facts_of_width}
 use Rattle.term_domain.specs.Laws.{MayBe, row_behind, stands-push, stands-again}
 
 -- ---- the node and the facts of a new term
@@ -149,23 +157,102 @@ phi_may rows facts w v h k = record { inside = k.0; says = tt; meets = k.1 }
 
 -- ---- loads
 
-pub load_may : (rows : Rows) (k : Width) (p : Term) (facts : Facts) → facts ≡ any_word → (w : World) (cells : List Cell) (v : Value) →
+-- the bits above the low ones are clear in a number that has no others
+high_clear : (n b m : ℕ) → n < 2 ^ b → bit_and (2 ^ b - 1) m ≡ 0 → bit_and n m ≡ 0
+high_clear n b m lt e =
+    let mask : bit_and n (2 ^ b - 1) ≡ n = and_mask n b ∙ mod-eq_of_lt lt in
+    ap (λ k. bit_and k m) (sym mask) ∙ and_assoc m n (2 ^ b - 1) ∙ ap (bit_and n) e ∙ and_zero_r n
+
+-- facts of a byte and a half word that are extended with zeros
+unsigned_met : (n b most zeros : ℕ) → n ≤ most → most < 2 ^ 31 → n < 2 ^ b → bit_and (2 ^ b - 1) zeros ≡ 0 →
+    Meets (record any_word { low = pos 0; high = pos most; most = most; zeros = zeros }) n
+unsigned_met n b most zeros le lt below clear =
+    let a = any_meets n (omega (arith, le, lt)) in
+    let e : signed n ≡ pos n = to_z_pos w32 n (omega (arith, le, lt)) in
+    record {
+      between = record { low = omega (arith, ints, e); high = omega (arith, ints, e, le); least = a.between.least; most = le };
+      bits = record { zeros = high_clear n b zeros below clear; ones = a.bits.ones };
+      rest = a.rest;
+    }
+
+-- a word whose highest bit is set
+negative : (n k : ℕ) → k < 2 ^ 31 → n ≡ 2 ^ 32 - 1 - k → signed n ≡ negsuc k
+negative n k lt e =
+    let z : n ≡ 2 ^ 32 - 1 - k % 2 ^ 32 = omega (arith, e, lt) in
+    ap signed z ∙ signed_value-word_of_integer (negsuc k) (record { sfits = lt })
+
+-- those that are extended with their sign
+signed_met : (n m : ℕ) → m < 2 ^ 31 → (n ≤ m) ⊎ ((2 ^ 32 - 1 - m ≤ n) × (n < 2 ^ 32)) →
+    Meets (record any_word { low = negsuc m; high = pos m }) n
+signed_met n m lt (inl le) =
+    let a = any_meets n (omega (arith, le, lt)) in
+    let e : signed n ≡ pos n = to_z_pos w32 n (omega (arith, le, lt)) in
+    record {
+      between = record { low = omega (arith, ints, e); high = omega (arith, ints, e, le); least = a.between.least; most = a.between.most };
+      bits = record { zeros = a.bits.zeros; ones = a.bits.ones };
+      rest = a.rest;
+    }
+signed_met n m lt (inr h) =
+    let a = any_meets n h.1 in
+    let k : 2 ^ 32 - 1 - n ≤ m = omega (arith, h.0, h.1) in
+    let e : signed n ≡ negsuc (2 ^ 32 - 1 - n) = negative n (2 ^ 32 - 1 - n) (omega (arith, k, lt)) (omega (arith, h.1)) in
+    record {
+      between = record { low = omega (arith, ints, e, k); high = omega (arith, ints, e); least = a.between.least; most = a.between.most };
+      bits = record { zeros = a.bits.zeros; ones = a.bits.ones };
+      rest = a.rest;
+    }
+
+-- a number in the range of a width meets the facts of the width
+width_met : (k : Width) (n : ℕ) → IsInRange k n → Meets (facts_of_width k) n
+width_met U8 n h = unsigned_met n 8 255 (2 ^ 32 - 2 ^ 8) (omega (arith, h)) (omega arith) h refl
+width_met U16 n h = unsigned_met n 16 65535 (2 ^ 32 - 2 ^ 16) (omega (arith, h)) (omega arith) h refl
+width_met S8 n (inl h) = signed_met n 127 (omega arith) (inl (omega (arith, h)))
+width_met S8 n (inr h) = let le = h.0 in signed_met n 127 (omega arith) (inr (omega (arith, le), h.1))
+width_met S16 n (inl h) = signed_met n 32767 (omega arith) (inl (omega (arith, h)))
+width_met S16 n (inr h) = let le = h.0 in signed_met n 32767 (omega arith) (inr (omega (arith, le), h.1))
+width_met Word n h = any_meets n h
+
+-- so does a value that a width keeps
+kept_met : (s : Store) (k : Width) (v : Value) → is_kept_by k v ≡ true → word_of_value s v < 2 ^ 32 →
+    Meets (facts_of_width k) (word_of_value s v)
+kept_met s k (Number n) e lt =
+    width_met k n (subst (IsInRange k) (eqb-true (narrowed_to k n) n e) (narrowed_to-in_range k n))
+kept_met s U8 (Pointer r o) e lt = absurd (false≢true e)
+kept_met s S8 (Pointer r o) e lt = absurd (false≢true e)
+kept_met s U16 (Pointer r o) e lt = absurd (false≢true e)
+kept_met s S16 (Pointer r o) e lt = absurd (false≢true e)
+kept_met s Word (Pointer r o) e lt = any_meets (word_of_value s (Pointer r o)) lt
+
+-- and what a load may give anew
+loaded_met : (s : Store) (k : Width) (cells : List Cell) (v : Value) → MayLoad s k cells v →
+    IsInRangeUnless k (decode k cells) v → word_of_value s v < 2 ^ 32 → Meets (facts_of_width k) (word_of_value s v)
+loaded_met s k cells v m r lt = go (decode k cells) refl r
+  where
+    go : (o : Option Value) → decode k cells ≡ o → IsInRangeUnless k o v → Meets (facts_of_width k) (word_of_value s v)
+    go None d r = subst (λ v. Meets (facts_of_width k) (word_of_value s v)) (sym r.1) (width_met k r.0 r.2)
+    go (Some u) d r = kept_met s k v (decode-kept k cells v (d ∙ ap Some (sym (m.defined u d)))) lt
+
+pub load_may : (rows : Rows) (k : Width) (p : Term) (facts : Facts) → facts ≡ facts_of_width k → (w : World) (cells : List Cell) (v : Value) →
     TableStands rows w → cells_at w.store k (w.values p.0) ≡ Some cells → MayLoad w.store k cells v → IsInRangeUnless k (decode k cells) v →
     MayBe w (nodes.Load k p) facts v
 load_may rows k p facts e w cells v h c m r =
     let i = MayLoad-inside w.store k (w.values p.0) cells v h.sound.addressed c m r in
-    record { inside = i; says = tt; meets = any_met rows w facts v e h i }
+    record {
+      inside = i;
+      says = tt;
+      meets = subst (λ (f : Facts). Meets f (word_of_value w.store v)) (sym e) (loaded_met w.store k cells v m r (word_of_value-small w.store v h.sound.addressed i));
+    }
 
 pub load_given : (old new : Rows) (k : Width) (p : Term) (facts : Facts) (t : ℕ) → IsNew old (nodes.Load k p) facts t new →
-    p.0 < length old → facts ≡ any_word → (w : World) (cells : List Cell) → TableStands old w → cells_at w.store k (w.values p.0) ≡ Some cells →
+    p.0 < length old → facts ≡ facts_of_width k → (w : World) (cells : List Cell) → TableStands old w → cells_at w.store k (w.values p.0) ≡ Some cells →
     (t < length old → TableStands new w × MayLoad w.store k cells (w.values t)) ×
     ((t < length old → ⊥) → (v : Value) → MayLoad w.store k cells v → IsInRangeUnless k (decode k cells) v → TableStands new (with_term w t v))
-load_given old new k p facts t n lp any w cells h c =
+load_given old new k p facts t n lp is w cells h c =
     let e = n.number in
     let q = n.pushed in (
       λ lt. absurd (omega (arith, e, lt)),
       λ fresh v m r. subst (λ t. TableStands new (with_term w t v)) (sym e)
-          (stands-push old new (nodes.Load k p) facts w v q lp h (load_may old k p facts any w cells v h c m r)),
+          (stands-push old new (nodes.Load k p) facts w v q lp h (load_may old k p facts is w cells v h c m r)),
     )
 
 -- ---- objects

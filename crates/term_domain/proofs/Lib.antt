@@ -1,3 +1,5 @@
+-- Lemmas that the proofs of this crate's functions share, and that crates above cite; `specs/Laws` has those that speak of
+-- definitions alone.
 pub mod Keys
 pub mod Lookups
 pub mod Kept

@@ -1,4 +1,5 @@
 -- Laws of tables: which worlds a table stands for after each change.
+-- No contract's statement cites this file: it holds proofs, to which src/terms.rt points for the laws of the trait.
 use Rattle.std.proofs.Common.{◌≡◌, refl, sym, ◌∙◌, ap, subst, arith, ℕ, zero, suc, ◌+◌, ◌<◌, inl, inr, ◌⊎◌, [], ◌∷◌, ◌++◌, length, take, Option, Some}
 use Rattle.std.specs.Prelude.{slice_get}
 use Rattle.std.proofs.lemmas.Grind.{common_steps}

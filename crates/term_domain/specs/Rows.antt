@@ -1,5 +1,7 @@
 -- A table of terms: a term's number is its place. What is asked of one, and what it says of a world.
-use Rattle.std.specs.Prelude.{◌≡◌, ◌≢◌, ℕ, pos, negsuc, ◌<◌, ◌⊎◌, Bool, List, [], ◌∷◌, ◌++◌, length, Option, Some, None, slice_get}
+use Rattle.std.specs.Prelude.{◌≡◌, ◌≢◌, ℕ, ◌-◌, ◌^◌, pos, negsuc, ◌<◌, ◌⊎◌, Bool, List, [], ◌∷◌, ◌++◌, length, Option, Some, None, slice_get}
+use Rattle.word_ops.specs.declared.operation.Width.{Width}
+use Rattle.word_ops.specs.declared.operation.Width.TheVariants.{U8, S8, U16, S16, Word}
 use Rattle.term_form.specs.declared.term.Root.{Root}
 use Rattle.term_form.specs.declared.term.Root.TheVariants as roots
 use Rattle.term_form.specs.declared.term.Node.{Node}
@@ -69,6 +71,14 @@ facts_of_root (roots.Local l) = any_word
 facts_of_root (roots.Param i) = any_word
 facts_of_root roots.Got = record any_word { low = negsuc 0; high = pos 255 }
 facts_of_root roots.Called = any_word
+
+-- what is known of the word of a load by its width alone: the numbers that an object of that width holds
+abbrev pub facts_of_width : Width → Facts
+facts_of_width U8 = record any_word { low = pos 0; high = pos 255; most = 255; zeros = 2 ^ 32 - 2 ^ 8 }
+facts_of_width S8 = record any_word { low = negsuc 127; high = pos 127 }
+facts_of_width U16 = record any_word { low = pos 0; high = pos 65535; most = 65535; zeros = 2 ^ 32 - 2 ^ 16 }
+facts_of_width S16 = record any_word { low = negsuc 32767; high = pos 32767 }
+facts_of_width Word = any_word
 
 -- what a term's node and facts say of its value
 pub record RowStands (w : World) (x : ℕ) (node : Node) (facts : Facts) : Type 0 where

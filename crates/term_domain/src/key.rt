@@ -1,3 +1,6 @@
+//! What tells the terms of a table apart: nodes that are shared are their own keys, and others have their place beside
+//! them.
+
 ghost use Rattle.std.specs.Prelude.{◌≡◌};
 ghost use Rattle.term_domain.specs.Keys.{own_place, own_place_of_root};
 

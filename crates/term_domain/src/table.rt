@@ -1,3 +1,6 @@
+//! The table of the terms in scope with their nodes and facts: a term's number is its place, and a shared node is found
+//! by a hash.
+
 ghost use Rattle.std.specs.Prelude.{◌≡◌, ◌≢◌, ℕ, ◌<◌, ◌≤◌, List, [], ◌∷◌, ◌++◌, length, take, IfOk, OnErr, IfSome, Some, None};
 ghost use Rattle.domain_laws.specs.Promises.{IsOverScope};
 ghost use Rattle.term_domain.specs.Keys.{own_place};

@@ -1,3 +1,6 @@
+//! The domain of terms alone, which implements the trait of `domain_laws` over a table: the bottom of every
+//! tower.
+
 ghost use Rattle.std.specs.Prelude.{◌≡◌, ◌≢◌, ℕ, ◌<◌, length, IfOk, OnErr, true, false, None};
 ghost use Rattle.word_ops.specs.Changes.{SameRegions};
 ghost use Rattle.term_form.specs.declared.term.Node.TheVariants as nodes;
@@ -7,7 +10,7 @@ ghost use Rattle.domain_laws.specs.World.{World, IsWorld};
 ghost use Rattle.domain_laws.specs.Promises.{IsOverScope};
 ghost use Rattle.scope_map.specs.Scopes.{Marked};
 ghost use Rattle.term_domain.specs.Keys.{own_place};
-ghost use Rattle.term_domain.specs.Rows.{node_at, facts_at, TableStands, IsShared, MayHave, Refutes, facts_of_root};
+ghost use Rattle.term_domain.specs.Rows.{node_at, facts_at, TableStands, IsShared, MayHave, Refutes, facts_of_root, facts_of_width};
 ghost use Rattle.term_domain.specs.Laws.{stands-local, stands-fades, marked_older, below_stable};
 
 use crate::table::Table;
@@ -16,7 +19,8 @@ use std::alloc::Global;
 use term_form::{Facts, Node, Root, Term, anything, is_narrower, only};
 use word_ops::{Memory, Op, Width};
 
-/// Terms that share operations: the domain that knows nothing but constants and what was assumed of phis.
+/// Terms that share operations: the domain that knows nothing but constants, what was assumed of phis, and the numbers that a
+/// byte taken and a load of a narrow width may be.
 #[derive(Drop)]
 pub struct Terms {
     table: Table,
@@ -67,6 +71,39 @@ fn root_facts(root: Root) -> Facts
             ..anything()
         },
         Root::Global(_) | Root::Local(_) | Root::Param(_) | Root::Called => anything(),
+    }
+}
+
+// What a load's word is by its width alone.
+fn width_facts(width: Width) -> Facts
+    ensures { result ≡ facts_of_width width }
+{
+    match width {
+        Width::U8 => Facts {
+            low: 0,
+            high: 255,
+            most: 255,
+            zeros: 0xffff_ff00,
+            ..anything()
+        },
+        Width::S8 => Facts {
+            low: -128,
+            high: 127,
+            ..anything()
+        },
+        Width::U16 => Facts {
+            low: 0,
+            high: 65535,
+            most: 65535,
+            zeros: 0xffff_0000,
+            ..anything()
+        },
+        Width::S16 => Facts {
+            low: -32768,
+            high: 32767,
+            ..anything()
+        },
+        Width::Word => anything(),
     }
 }
 
@@ -149,7 +186,8 @@ impl Domain for Terms {
     }
 
     fn load(&mut self, width: Width, pointer: Term) -> Result<Term, Memory> {
-        self.table.push(Node::Load(width, pointer), anything())
+        self.table
+            .push(Node::Load(width, pointer), width_facts(width))
     }
 
     fn store(&mut self, width: Width, pointer: Term, value: Term) -> Result<(), Memory> {
@@ -202,6 +240,3 @@ impl Domain for Terms {
         widened(assumed, &self.facts(back), how)
     }
 }
-
-#[cfg(test)]
-mod tests;

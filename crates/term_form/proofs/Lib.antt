@@ -1,3 +1,6 @@
+-- Lemmas that the proofs of this crate's functions share, and that crates above cite; `specs/Laws` has those that speak of
+-- definitions alone.
 pub mod Congruences
 pub mod Parts
 pub mod Widths
+pub mod Meeting

@@ -5,7 +5,7 @@ use Rattle.std.specs.Option.{option_map, option_and_then}
 use Rattle.word_ops.specs.declared.operation.Width.{Width}
 use Rattle.word_ops.specs.declared.operation.Width.TheVariants.{U8, U16, Word}
 use Rattle.word_ops.specs.Choice.{when}
-use Rattle.word_ops.specs.Store.{Value, Number, Pointer, Cell, Unset, Byte, Part, Store as Objects, shape_at, new_region, unset_cells, end_regions}
+use Rattle.word_ops.specs.Store.{Value, Number, Pointer, Cell, Unset, Byte, Part, Store as Objects, shape_at, new_region, unset_cells, end_regions, number_of}
 use Rattle.word_ops.specs.Access.{narrowed_to, decode, cells_at, write}
 use Rattle.word_ops.specs.Values.{value_of_operation}
 use Rattle.word_ops.specs.Addresses.{word_of_value}
@@ -121,11 +121,6 @@ value_when_ready a s t _ = None
 abbrev pub with_ready : Objects → List Definition → Activation → Option Activation
 with_ready s [] a = Some a
 with_ready s (d ∷ ds) a = option_and_then (λ v. with_ready s ds (record a { values = with_value a.values d.term.0 v })) (value_when_ready a s d.term.0 d.node)
-
--- the number of a value that is one
-abbrev pub number_of : Value → Option ℕ
-number_of (Number n) = Some n
-number_of (Pointer r o) = None
 
 abbrev pub width_of : StoreWidth → Width
 width_of stored.Byte = U8

@@ -1,5 +1,8 @@
+//! What is known of a word, with the test whether a word meets it, and the hull and the meet of two facts, each put
+//! together from its parts.
+
 ghost use Rattle.std.specs.Prelude.{◌≡◌, ◌↔◌, ◌⊎◌, ℕ, ◌<◌, ◌^◌, IsTrue};
-ghost use Rattle.term_form.specs.Meets.{Meets, LiesIn, IsHull, IsMeet};
+ghost use Rattle.term_form.specs.Meets.{Meets, meets, LiesIn, IsHull, IsMeet};
 
 use crate::{bits, congruence, interval};
 
@@ -29,7 +32,8 @@ pub struct Facts {
 
 /// Whether the word meets the facts.
 pub fn holds(facts: &Facts, word: u32) -> bool
-    ensures { IsTrue result ↔ Meets facts.now word }
+    ensures exact { IsTrue result ↔ Meets facts.now word }
+    ensures test { result ≡ meets facts.now word }
 {
     interval::is_between(facts, word)
         && bits::has_bits(facts, word)

@@ -1,3 +1,6 @@
+//! Functions as graphs of terms and effects. What a graph does stands in `specs/Walk`, what is in scope in
+//! `specs/Scope`, and when a graph hangs together in `specs/Graphs`.
+
 use crate::facts::Facts;
 use crate::listing::StoreWidth;
 use crate::term::{Node, Term};

@@ -30,6 +30,3 @@ pub use listing::{
 pub use narrower::{anything, is_narrower, knows_bits_of, lies_within, only, refines_rest};
 pub use term::{Node, Root, Term};
 pub use walks::{closed_walks, loads_of_walks, walks_go_on};
-
-#[cfg(test)]
-mod tests;

@@ -1,3 +1,6 @@
+//! The records in which an image lists its functions, blocks, terms, effects and edges: what a program says of its own
+//! text.
+
 use crate::facts::Facts;
 use crate::term::Term;
 use word_ops::{Items, Op, Width};

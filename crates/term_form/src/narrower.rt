@@ -1,3 +1,6 @@
+//! When facts are at most as wide as others, part by part, and the two ends of that order: one word alone, and any
+//! word.
+
 ghost use Rattle.std.specs.Prelude.{◌≡◌, ◌↔◌, ℕ, ◌<◌, ◌^◌, IsTrue};
 ghost use Rattle.term_form.specs.Meets.{Meets};
 ghost use Rattle.term_form.specs.Narrower.{IsNarrower, LiesWithin, KnowsBitsOf, RefinesRest, only_word, any_word};
@@ -69,6 +72,3 @@ pub fn refines_rest(facts: &Facts, wider: &Facts) -> bool
 {
     hull(facts, wider).modulus == wider.modulus
 }
-
-#[cfg(test)]
-mod tests;

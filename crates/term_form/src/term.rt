@@ -1,3 +1,6 @@
+//! Terms by their numbers, and how the word of a term comes about: a constant, a root, an operation, a load or a
+//! phi.
+
 use word_ops::{Op, Width};
 
 /// A term, by its number.

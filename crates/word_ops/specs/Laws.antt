@@ -1,4 +1,5 @@
 -- Laws of the definitions beside this file, by subject.
+-- No contract cites these files: they hold proofs.
 pub mod Lists
 pub mod Operations
 pub mod Widths
@@ -12,6 +13,7 @@ pub mod Words
 pub mod Addresses
 pub mod Runs
 pub mod Clock
+pub mod Depth
 pub mod Outcomes
 pub mod FadedStores
 pub mod Bytes

@@ -1,6 +1,9 @@
+-- The definitions of this crate, each file behind those that it cites. What contracts say is told by these; `Laws` holds
+-- proofs alone.
 pub mod Word
 pub mod Choice
 pub mod Operation
+pub mod Table
 pub mod Store
 pub mod Access
 pub mod Values
@@ -9,7 +12,9 @@ pub mod Changes
 pub mod Run
 pub mod Following
 pub mod Clock
+pub mod Depth
 pub mod Outcome
+pub mod Stack
 pub mod Laws
 pub mod Examples
 pub mod Instances

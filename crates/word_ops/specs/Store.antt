@@ -8,6 +8,11 @@ pub data Value : Type 0 where
   Number : (word : ℕ) → Value
   Pointer : (region offset : ℕ) → Value
 
+-- the number of a value that is one
+abbrev pub number_of : Value → Option ℕ
+number_of (Number n) = Some n
+number_of (Pointer r o) = None
+
 -- what one byte of an object holds (C11 6.2.6.1p2, p4): no value yet, a byte, or the part k of a pointer, from 0 to 3
 pub data Cell : Type 0 where
   Unset : Cell

@@ -1,12 +1,12 @@
+//! The operations on words as functions: the word of each and where C leaves it undefined,
+//! and what a machine gives in any case.
+
 ghost use Rattle.std.specs.Prelude.{◌≡◌, ◌≤◌, ◌%◌};
 ghost use Rattle.std.specs.Int.{int_shr};
 ghost use Rattle.word_ops.specs.Word.{signed_value, word_of_integer, number_of_truth, narrowed};
 ghost use Rattle.word_ops.specs.Operation.{machine_word, is_undefined, word_of_operation, signed_quotient, signed_remainder, unsigned_quotient, unsigned_remainder};
 
 use crate::operation::Op;
-
-#[cfg(test)]
-mod tests;
 
 /// The word of an operation on two words, or `None` exactly where C leaves it undefined (C11 6.3, 6.5).
 ///

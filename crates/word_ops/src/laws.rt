@@ -6,6 +6,7 @@ ghost use Rattle.word_ops.specs.declared.operation.Op.{Op};
 ghost use Rattle.word_ops.specs.declared.operation.Width.{Width};
 ghost use Rattle.word_ops.specs.Word.{signed_value};
 ghost use Rattle.word_ops.specs.Operation.{machine_word, word_of_operation};
+ghost use Rattle.word_ops.specs.Table.{tell, operations, narrow_so, narrowings};
 ghost use Rattle.word_ops.specs.Store.{Value, Store, Cell};
 ghost use Rattle.word_ops.specs.Access.{bytes_of, cells_at, converted_to, load, write, AreDisjoint};
 ghost use Rattle.word_ops.specs.Values.{value_of_operation, truth};
@@ -35,6 +36,13 @@ pub fn operations_on_words()
         (b < 32) × (a < 2 ^ 31) × (n ≡ a * 2 ^ b) × (n < 2 ^ 31) }
     ensures right_shifts { (a b n : ℕ) → a < 2 ^ 32 → word_of_operation Op.Shrs a b ≡ Some n →
         (b < 32) × (signed_value n ≡ int_shr (signed_value a) b) }
+{}
+
+/// The table of words that instructions gave, computed from the definitions: 247 operations with the edge cases of each, and
+/// what narrowing to 1, 12, 31 and 32 bits gives.
+pub fn words_of_the_table()
+    ensures operations { tell operations ≡ true }
+    ensures narrowings { narrow_so narrowings ≡ true }
 {}
 
 /// Operations on values: wherever one is defined its word is the operation on the words, in stores whose objects have

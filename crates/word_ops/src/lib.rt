@@ -21,6 +21,7 @@ mod text;
 pub use arithmetic::{apply, machine, narrow};
 pub use laws::{
     loads_and_stores, operations_on_values, operations_on_words, runs_with_a_longer_clock,
+    words_of_the_table,
 };
 pub use memory::Memory;
 pub use operation::{Op, Width};

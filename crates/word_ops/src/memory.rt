@@ -1,3 +1,6 @@
+//! Want of memory, the refusal that every layer may give: a type of one value, to which the errors of std's
+//! allocations convert.
+
 use std::alloc::{AllocError, AllocFailed};
 use std::error::Error;
 use std::fmt;
@@ -26,18 +29,5 @@ impl From<AllocError> for Memory {
 impl<T: Drop> From<AllocFailed<T>> for Memory {
     fn from(_refused: AllocFailed<T>) -> Memory {
         Memory
-    }
-}
-
-#[cfg(test)]
-mod tests {
-    use super::Memory;
-    use std::test::Fail;
-
-    #[test]
-    fn says_out_of_memory(rt: HostRuntime) -> Result<(), Fail> {
-        let text = format!(in rt.alloc(); "{}", Memory)?;
-        assert_eq!(rt; text.as_str(), "out of memory");
-        Ok(())
     }
 }

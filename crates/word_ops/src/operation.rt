@@ -1,3 +1,6 @@
+//! The names of the operations on words and of the widths of accesses, which core code, terms and machine
+//! code have in common.
+
 /// The operations on words.
 ///
 /// Those that end in `s` read their operands as signed, those in `u` as unsigned; the extensions have

@@ -1,3 +1,6 @@
+//! Texts of bytes: the names and literals of sources as they stand there, compared and hashed by their
+//! bytes.
+
 ghost use Rattle.std.specs.Prelude.{◌≡◌, nat_eq};
 ghost use Rattle.std.specs.Cmp.{partial_equiv_from_equiv};
 ghost use Rattle.std.specs.Cmp.Lexicographic.{nat_list_eq_equiv, pointwise};
@@ -61,22 +64,5 @@ impl Hash for Text {
 
     fn hash<H: Hasher>(&self, state: &mut H) {
         self.as_slice().hash(state);
-    }
-}
-
-#[cfg(test)]
-mod tests {
-    use super::Text;
-    use std::test::Fail;
-
-    #[test]
-    fn texts_are_equal_by_their_bytes(rt: HostRuntime) -> Result<(), Fail> {
-        let name = Text::from_vec([b'i', b'n', b't'].to_vec(rt.alloc())?);
-        let same = Text::from_vec([b'i', b'n', b't'].to_vec(rt.alloc())?);
-        let other = Text::from_vec([b'i', b'n'].to_vec(rt.alloc())?);
-        assert!(rt; name == same);
-        assert!(rt; name != other);
-        assert_eq!(rt; other.as_slice(), b"in".as_slice());
-        Ok(())
     }
 }

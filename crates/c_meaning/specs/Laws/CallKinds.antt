@@ -1,10 +1,11 @@
 -- What a statement returns, and what a call gives, is what the function's type has.
+-- No contract cites this file: it holds proofs.
 use Rattle.std.proofs.Common.{◌≡◌, refl, sym, subst, ℕ, zero, suc, List, [], ◌∷◌, length, arith, ⊎_elim}
 use Rattle.std.proofs.lemmas.Bool.Decides.{eqb_tells}
 use Rattle.std.specs.Prelude.{◌+◌, ◌==◌, map, Bool, true, false, Option, Some, None, slice_get}
 use Rattle.std.specs.Option.{option_map}
 use Rattle.word_ops.specs.declared.operation.Width.TheVariants as width
-use Rattle.word_ops.specs.Store.{Number, Pointer, Byte, Store, end_regions, refill_region}
+use Rattle.word_ops.specs.Store.{Number, Pointer, Byte, Store, end_regions, refill_region, number_of}
 use Rattle.word_ops.specs.Access.{put_cells, initialise}
 use Rattle.word_ops.specs.Run.{Outside, Run, Gives, given, branch, Turn}
 use Rattle.c_tree.specs.declared.typed.operator.Scalar.{Scalar}
@@ -22,7 +23,7 @@ use Rattle.c_tree.specs.declared.typed.unit.Typed.{Typed}
 use Rattle.c_tree.specs.TypedKinds.{Holds, Signature, Names, width_of}
 use Rattle.c_tree.specs.TypedUnits.{with_declared, signature_of, names_in, Jumps, in_loop, in_switch, declared_in, declared_in_all, declared_in_branches, IsReturnOf, IsStatement, AreStatements, AreBranches, AreParts, IsMain, IsUnit}
 use Rattle.c_meaning.specs.Environment.{Environment, with_objects}
-use Rattle.c_meaning.specs.Expressions.{Invocation, Calls, number_of, value}
+use Rattle.c_meaning.specs.Expressions.{Invocation, Calls, value}
 use Rattle.c_meaning.specs.Statements.{Done, Normal, Breaks, Continues, Returns, with_new_objects, in_block, piece_set, pieces_set, initialised, holds, holds_if_any, evaluated_if_any, next, after_body, again, loop_left, where_holds, behind_body, next_iteration, first_part, after_switch, switch_body, statement, statements, first_holding, statements_from}
 use Rattle.c_meaning.specs.Units.{with_arguments, at_closing_brace, value_of_body, body_run, function_run, calls}
 use Rattle.c_meaning.specs.Kinds.{IsValueOf, IsResultOf, IsResultIn, IsDoneOf, GivesSuch}

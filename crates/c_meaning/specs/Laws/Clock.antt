@@ -1,10 +1,9 @@
 -- A run takes of the input, the output and the ticks alone, and with a longer clock it is the same run, further.
-use Rattle.std.proofs.Common.{◌≡◌, sym, ap, ℕ, ◌+◌, List}
-use Rattle.std.proofs.lemmas.Option.{none-some}
-use Rattle.std.specs.Prelude.{Some, None}
-use Rattle.word_ops.specs.Run.{Exit, Deep, More, Run, Gives, Ends, Undefined}
-use Rattle.word_ops.specs.Outcome.{outcome_of, start}
-use Rattle.word_ops.specs.Clock.{GoesOn, IsTimed}
+-- No contract cites this file: it holds proofs.
+use Rattle.std.proofs.Common.{◌≡◌, ℕ, ◌+◌, List}
+use Rattle.std.specs.Prelude.{None}
+use Rattle.word_ops.specs.Clock.{IsTimed}
+use Rattle.word_ops.specs.Laws.Outcomes.{outcome-none}
 use Rattle.word_ops.specs.Laws.Clock.{IsTimed-Gives, IsTimed-exit, IsTimed-undefined, IsTimed-then, IsTimed-tick, IsTimed-put_byte, IsTimed-get_byte, IsTimed-loop, IsTimed-nested, IsTimed-main}
 use Rattle.c_tree.specs.declared.typed.unit.Typed.{Typed}
 use Rattle.c_meaning.specs.Expressions.{Invocation}
@@ -35,19 +34,7 @@ calls_timed u depth i =
 pub run_timed : (u : Typed) (depth : ℕ) → IsTimed (run_of_unit u depth)
 run_timed u depth = IsTimed-main (calls u depth (first_call u)) (calls_timed u depth (first_call u))
 
-some_none : {A : Type 0} (a : A) → Some a ≡ None → ⊥
-some_none a e = none-some a (sym e)
-
 -- what is undefined is so with a longer clock
-module _ {S A : Type 0} (input : List ℕ) (clock k : ℕ) where
-  longer_none : (r q : Run S A) → GoesOn k r q → outcome_of input clock r ≡ None → outcome_of input (clock + k) q ≡ None
-  longer_none (Gives s u a) q h e = ap (outcome_of input (clock + k)) h
-  longer_none (Ends More u) q h e = absurd (some_none _ e)
-  longer_none (Ends Deep u) q h e = absurd (some_none _ e)
-  longer_none (Ends (Exit n) u) q h e = absurd (some_none _ e)
-  longer_none Undefined q h e = ap (outcome_of input (clock + k)) h
-
 pub longer-none : (u : Typed) (input : List ℕ) (depth clock k : ℕ) → outcome_of_unit u input depth clock ≡ None →
     outcome_of_unit u input depth (clock + k) ≡ None
-longer-none u input depth clock k e =
-    longer_none input clock k (run_of_unit u depth (start input clock)) (run_of_unit u depth (start input (clock + k))) ((run_timed u depth).goes_on k (start input clock)) e
+longer-none u input depth clock k e = outcome-none (run_of_unit u depth) input clock k (run_timed u depth) e

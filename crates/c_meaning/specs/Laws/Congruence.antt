@@ -1,5 +1,6 @@
 -- Relations of runs that all ways to put runs together keep. A law of the meaning by induction over trees is proved once, for any
 -- such relation.
+-- No contract cites this file: it holds proofs.
 use Rattle.std.specs.Prelude.{ℕ, Bool, true, false, Option, Some, None}
 use Rattle.word_ops.specs.Run.{Outside, Run, Gives, Undefined, then_do, given, branch, tick, Turn, loop, put_byte, get_byte, exit_with}
 

@@ -1,5 +1,6 @@
 -- What each form means, over plain lists of its operands: the definitions go by the rows in which a tree keeps its lists, and
 -- proofs about code go by lists.
+-- No contract cites this file: it holds proofs.
 use Rattle.std.proofs.Common.{◌≡◌, refl, ap, ◌∙◌, ℕ, List, [], ◌∷◌}
 use Rattle.word_ops.specs.Store.{Value, Number, Store}
 use Rattle.word_ops.specs.Run.{Outside, Run, Gives, then_do, given}

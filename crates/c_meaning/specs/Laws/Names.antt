@@ -1,5 +1,6 @@
 -- Names are found: where an environment has what names stand for, each name of an expression that hangs together leads to an
 -- object. So such an expression is undefined by its operators alone.
+-- No contract cites this file: it holds proofs.
 use Rattle.std.proofs.Common.{◌≡◌, sym, ap, ◌∙◌, ℕ, ◌+◌, ◌<◌, List, length, arith, length-append}
 use Rattle.std.proofs.lemmas.Bool.Decides.{nat_tests}
 use Rattle.std.proofs.lemmas.List.{length-map}

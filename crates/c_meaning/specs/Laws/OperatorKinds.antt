@@ -1,4 +1,5 @@
 -- Operators give values of the kinds that stand for them.
+-- No contract cites this file: it holds proofs.
 use Rattle.std.proofs.Common.{◌≡◌, refl, sym, ap, ◌∙◌, subst, ℕ, ◌<◌, arith, ⊎_elim}
 use Rattle.std.proofs.lemmas.Bool.{false≢true}
 use Rattle.std.proofs.lemmas.Bool.Decides.{eqb_tells}
@@ -17,7 +18,7 @@ use Rattle.word_ops.specs.Access.{narrowed_to, IsInRange, is_kept_by, load, poin
 use Rattle.word_ops.specs.Values.{value_of_operation, truth, is_pointer, is_pointer_or_null, equal_pointers, pointer_before, pointer_at_most, place_within, pointer_plus, pointer_minus}
 use Rattle.word_ops.specs.Laws.Lists.{only_if-some, when-some}
 use Rattle.word_ops.specs.Laws.Operations.{word_of_operation-small, word_of_integer-small, number_of_truth-le}
-use Rattle.word_ops.specs.Laws.Widths.{narrowed_to-small, narrowed_to-in_range, narrowed_to-is}
+use Rattle.word_ops.specs.Laws.Widths.{narrowed_to-in_range, IsInRange-small}
 use Rattle.word_ops.specs.Laws.Words.{number_some}
 use Rattle.word_ops.specs.Laws.Loads.{load_integer-load, load-kept}
 use Rattle.c_tree.specs.declared.typed.operator.Scalar.{Scalar}
@@ -46,16 +47,13 @@ use Rattle.c_meaning.specs.Kinds.{IsValueOf}
 
 -- ---- words
 
-in_range-word : (k : Width) (n : ℕ) → IsInRange k n → n < 2 ^ 32
-in_range-word k n h = subst (λ m. m < 2 ^ 32) (narrowed_to-is k n h) (narrowed_to-small k n)
-
 -- a number that is a word
 abbrev pub IsWord : Value → Type 0
 IsWord v = (n : ℕ) × (v ≡ Number n) × (n < 2 ^ 32)
 
 pub integer-word : (j : Kind) (v : Value) → IsInteger j → IsValueOf j v → IsWord v
 integer-word Void v i h = absurd i
-integer-word (Holds (scalar.Integer k)) v i h = (h.0, h.1, in_range-word k h.0 h.2)
+integer-word (Holds (scalar.Integer k)) v i h = (h.0, h.1, IsInRange-small k h.0 h.2)
 integer-word (Holds scalar.Pointer) v i h = absurd i
 
 pub pointer-value : (j : Kind) (v : Value) → IsPointer j → IsValueOf j v → is_pointer_or_null v ≡ true

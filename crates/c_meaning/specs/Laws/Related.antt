@@ -1,7 +1,8 @@
 -- Where calls are related by a congruence, so are the runs of expressions, statements and functions with these calls in them.
+-- No contract cites this file: it holds proofs.
 use Rattle.std.proofs.Common.{ℕ, zero, suc, List, [], ◌∷◌, length}
 use Rattle.std.specs.Prelude.{◌%◌, ◌==◌, map, Bool, true, Option, Some, None, slice_get}
-use Rattle.word_ops.specs.Store.{Value, Number, Pointer, Byte, Store, end_regions, refill_region}
+use Rattle.word_ops.specs.Store.{Value, Number, Pointer, Byte, Store, end_regions, refill_region, number_of}
 use Rattle.word_ops.specs.Access.{put_cells, initialise}
 use Rattle.word_ops.specs.Values.{truth}
 use Rattle.word_ops.specs.Run.{Outside, Run, Gives, then_do, given, branch, Turn, Again, Over, put_byte, exit_with}
@@ -21,7 +22,7 @@ use Rattle.c_tree.specs.declared.typed.unit.Typed.{Typed}
 use Rattle.c_tree.specs.TypedKinds.{width_of}
 use Rattle.c_meaning.specs.Environment.{Environment, automatic_place, with_objects}
 use Rattle.c_meaning.specs.Operators.{Changed, arithmetic_value, assigned, primary_value, unary_value}
-use Rattle.c_meaning.specs.Expressions.{Invocation, Calls, gives_changed, number_of, put_value, exit_value, called, called_only, by_truth, gives_number, value, stepped, values, every, some, chosen, assigning}
+use Rattle.c_meaning.specs.Expressions.{Invocation, Calls, gives_changed, put_value, exit_value, called, called_only, by_truth, gives_number, value, stepped, values, every, some, chosen, assigning}
 use Rattle.c_meaning.specs.Statements.{Done, Normal, Breaks, Continues, Returns, with_new_objects, in_block, piece_set, pieces_set, initialised, holds, holds_if_any, evaluated_if_any, next, after_body, again, loop_left, where_holds, behind_body, next_iteration, first_part, after_switch, switch_body, statement, statements, first_holding, statements_from}
 use Rattle.c_meaning.specs.Units.{with_arguments, value_of_body, body_run, function_run}
 use Rattle.c_meaning.specs.Laws.Congruence.{Relation, IsCongruence, related-given, related-branch}

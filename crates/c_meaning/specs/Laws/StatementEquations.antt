@@ -1,7 +1,8 @@
 -- What each form of statement does, over plain lists.
+-- No contract cites this file: it holds proofs.
 use Rattle.std.proofs.Common.{◌≡◌, refl, sym, ap, ◌∙◌, ℕ, zero, suc, List, [], ◌∷◌, length}
 use Rattle.std.specs.Prelude.{◌==◌, Bool, Option, if◌then◌else◌}
-use Rattle.word_ops.specs.Store.{Store}
+use Rattle.word_ops.specs.Store.{Store, number_of}
 use Rattle.word_ops.specs.Run.{Outside, Run, Gives, then_do, given, branch, loop}
 use Rattle.c_tree.specs.declared.typed.expression.TExpr.{TExpr}
 use Rattle.c_tree.specs.declared.typed.statement.TStmt.{TStmt, Row_of-TStmt, end_of-TStmt, more_of-TStmt, Row_of-Branch, end_of-Branch, more_of-Branch, Row_of-Part, end_of-Part, more_of-Part, items-the_row-TStmt, items_hidden-the_row-TStmt-0, items_shown-the_row-TStmt-0, items-the_row-Branch, items_hidden-the_row-Branch-1, items-the_row-Part, items_hidden-the_row-Part-3}
@@ -12,7 +13,7 @@ use Rattle.c_tree.specs.declared.typed.statement.Part.{Part}
 use Rattle.c_tree.specs.declared.typed.statement.Objects.{Objects}
 use Rattle.c_tree.specs.declared.typed.statement.Label.{Label}
 use Rattle.c_meaning.specs.Environment.{Environment}
-use Rattle.c_meaning.specs.Expressions.{Calls, number_of, value}
+use Rattle.c_meaning.specs.Expressions.{Calls, value}
 use Rattle.c_meaning.specs.Statements.{Done, Normal, in_block, holds, holds_if_any, next, again, where_holds, behind_body, next_iteration, is_case, is_default, has_label, place_behind, part_with, parts_in, first_part, switch_body, statement, statements, first_holding, statements_from}
 
 -- what a statement does, told its environment

@@ -1,8 +1,9 @@
 -- What an expression, a statement and a call give is of the kind that stands for it: so a value that reaches a narrow object is
 -- in its range, and each number is a word.
+-- No contract cites this file: it holds proofs.
 use Rattle.std.proofs.Common.{◌≡◌, refl, sym, subst, ℕ, zero, suc, List, [], ◌∷◌, arith}
 use Rattle.std.specs.Prelude.{◌-◌, ◌^◌, ◌%◌, Bool, true, false, Option, Some, None, slice_get}
-use Rattle.word_ops.specs.Store.{Value, Number, Store}
+use Rattle.word_ops.specs.Store.{Value, Number, Store, number_of}
 use Rattle.word_ops.specs.Values.{truth}
 use Rattle.word_ops.specs.Run.{Outside, Run, Gives, Ends, More, Undefined, then_do, given, branch, tick_from, tick, Turn, Again, Over, after_turn, turns, loop, put_byte, next_word, get_byte, exit_with}
 use Rattle.c_tree.specs.declared.typed.operator.Scalar.{Scalar}
@@ -13,7 +14,7 @@ use Rattle.c_tree.specs.declared.typed.expression.Target.TheVariants as target
 use Rattle.c_tree.specs.TypedKinds.{Kind, Void, Holds, Signature, Names, word, IsOfKind, StepsGive, ArmsGive, TargetsGive, ResultIs}
 use Rattle.c_meaning.specs.Environment.{Environment, automatic_place}
 use Rattle.c_meaning.specs.Operators.{Changed, arithmetic_value, assigned, primary_value, unary_value}
-use Rattle.c_meaning.specs.Expressions.{Invocation, Calls, gives_changed, number_of, put_value, exit_value, called, called_only, by_truth, gives_number, value, stepped, values, every, some, chosen, assigning}
+use Rattle.c_meaning.specs.Expressions.{Invocation, Calls, gives_changed, put_value, exit_value, called, called_only, by_truth, gives_number, value, stepped, values, every, some, chosen, assigning}
 use Rattle.c_meaning.specs.Kinds.{IsValueOf, IsResultOf, IsResultIn, GivesSuch}
 use Rattle.c_meaning.specs.Laws.OperatorKinds.{arithmetic-kind, assigned-kind, unary-kind, primary-kind}
 

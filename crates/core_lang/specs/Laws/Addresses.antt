@@ -1,5 +1,6 @@
 -- Laws of addresses: with a layout that keeps the objects of a program apart, each store of its runs is addressed, and each
 -- value is one of its store.
+-- No contract cites this file: it holds proofs.
 use Rattle.std.proofs.Common.{◌≡◌, sym, ap, ◌∙◌, subst, ℕ, zero, suc, ◌+◌, ◌*◌, ◌≤◌, ◌<◌, ◌⊎◌, inl, inr, ⊎_elim, List, [], ◌∷◌, ◌++◌, length, arith, length-append}
 use Rattle.std.proofs.Math.Nat.{suc-mul}
 use Rattle.std.proofs.lemmas.Option.{slice_get_within}
@@ -14,7 +15,7 @@ use Rattle.word_ops.specs.Run.{Outside, next_word}
 use Rattle.word_ops.specs.Laws.Lists.{slice_get-there, slice_get-append_some}
 use Rattle.word_ops.specs.Laws.Regions.{shape_at-region, shape_at-some, change_region-at, end_regions-live, refill_region-shapes, SameRegions-refl, SameRegions-trans, SameRegions-append, SameRegions-ends, SameRegions-length, SameShapes-regions}
 use Rattle.word_ops.specs.Laws.Accesses.{write-shapes}
-use Rattle.word_ops.specs.Laws.Addresses.{AreCellsIn-replicate, cells_from-in, load-in, IsAddressed-puts, IsAddressed-write, IsAddressed-refill, IsAddressed-ends, IsAddressed-append}
+use Rattle.word_ops.specs.Laws.Addresses.{AreCellsIn-append, AreCellsIn-take, AreCellsIn-drop, AreCellsIn-replicate, cells_from-in, load-in, IsAddressed-puts, IsAddressed-write, IsAddressed-refill, IsAddressed-ends, IsAddressed-append}
 use Rattle.word_ops.specs.Laws.Values.{IsValueIn-same}
 use Rattle.word_ops.specs.Laws.Words.{operation-in}
 use Rattle.word_ops.specs.Laws.Runs.{next_word-in}
@@ -84,26 +85,6 @@ IsAligned-behind s t h a r z e live = a r z (h r z e live) live
 
 -- ---- cells
 
-pub cells_append : (s : Store) (cs ds : List Cell) → AreCellsIn s cs → AreCellsIn s ds → AreCellsIn s (cs ++ ds)
-cells_append s [] ds h k = k
-cells_append s (Unset ∷ cs) ds h k = cells_append s cs ds h k
-cells_append s (Byte b ∷ cs) ds h k = cells_append s cs ds h k
-cells_append s (Part j r o ∷ cs) ds h k = (h.0, cells_append s cs ds h.1 k)
-
-pub cells_take : (s : Store) (n : ℕ) (cs : List Cell) → AreCellsIn s cs → AreCellsIn s (take n cs)
-cells_take s zero cs h = tt
-cells_take s (suc n) [] h = tt
-cells_take s (suc n) (Unset ∷ cs) h = cells_take s n cs h
-cells_take s (suc n) (Byte b ∷ cs) h = cells_take s n cs h
-cells_take s (suc n) (Part j r o ∷ cs) h = (h.0, cells_take s n cs h.1)
-
-pub cells_drop : (s : Store) (n : ℕ) (cs : List Cell) → AreCellsIn s cs → AreCellsIn s (drop n cs)
-cells_drop s zero cs h = h
-cells_drop s (suc n) [] h = tt
-cells_drop s (suc n) (Unset ∷ cs) h = cells_drop s n cs h
-cells_drop s (suc n) (Byte b ∷ cs) h = cells_drop s n cs h
-cells_drop s (suc n) (Part j r o ∷ cs) h = cells_drop s n cs h.1
-
 bytes_in : (s : Store) (cs : List Cell) → AreCellsIn s (map only_byte cs)
 bytes_in s [] = tt
 bytes_in s (Unset ∷ cs) = bytes_in s cs
@@ -117,7 +98,7 @@ unit_in s cs (Some v) h = h
 in_units_in : (s : Store) (n a : ℕ) (cs : List Cell) → AreCellsIn s cs → AreCellsIn s (in_units n a cs)
 in_units_in s zero a cs h = tt
 in_units_in s (suc n) a cs h =
-    cells_append s (cells_of_unit (take a cs) (pointer_in (take a cs))) (in_units n a (drop a cs)) (unit_in s (take a cs) (pointer_in (take a cs)) (cells_take s a cs h)) (in_units_in s n a (drop a cs) (cells_drop s a cs h))
+    AreCellsIn-append s (cells_of_unit (take a cs) (pointer_in (take a cs))) (in_units n a (drop a cs)) (unit_in s (take a cs) (pointer_in (take a cs)) (AreCellsIn-take s a cs h)) (in_units_in s n a (drop a cs) (AreCellsIn-drop s a cs h))
 
 pub IsAddressed-copied : (s t : Store) (p q : Value) (n a : ℕ) → copied s p q n a ≡ Some t → IsAddressed s → IsAddressed t
 IsAddressed-copied s t p q n a e i =

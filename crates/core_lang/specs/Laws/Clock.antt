@@ -1,5 +1,6 @@
 -- Laws of the clock: acts, calls and programs take of the outside alone, and with a longer clock each is the same run,
 -- further (`IsTimed` of word_ops).
+-- No contract cites this file: it holds proofs.
 use Rattle.std.proofs.Common.{◌≡◌, ℕ, ◌+◌}
 use Rattle.std.specs.Prelude.{Option, Some, None, List, [], ◌∷◌, length, ◌==◌, slice_get}
 use Rattle.word_ops.specs.Store.{Value, Number, Pointer, Store, Unset, Byte, refill_region}

@@ -1,11 +1,13 @@
 -- Laws of the depth: with more depth a run is the same where it was not too deep, and goes on from there where it was.
-use Rattle.std.proofs.Common.{◌≡◌, refl, sym, ap, subst, ℕ, zero, suc, ◌≤◌, ◌<◌, arith}
-use Rattle.std.specs.Prelude.{Option, Some, None, Bool, true, false, List, [], ◌∷◌, length, ◌==◌, slice_get}
-use Rattle.word_ops.specs.Store.{Value, Number, Pointer}
+-- No contract cites this file: it holds proofs.
+use Rattle.std.proofs.Common.{refl, ℕ, zero, suc, ◌≤◌, arith}
+use Rattle.std.specs.Prelude.{List, [], ◌∷◌, length, ◌==◌, slice_get}
 use Rattle.word_ops.specs.Values.{truth}
-use Rattle.word_ops.specs.Run.{Outside, Exit, Deep, More, Run, Gives, Ends, Undefined, then_do, given, branch, tick_from, tick, Turn, Again, Over, after_turn, loop, end_of_main}
-use Rattle.word_ops.specs.Clock.{RunReaches, IsTimed}
-use Rattle.word_ops.specs.Laws.Clock.{Reaches-refl, RunReaches-earlier, IsTimed-Gives, IsTimed-then, IsTimed-tick, IsTimed-loop, loop-first}
+use Rattle.word_ops.specs.Run.{Outside, Gives}
+use Rattle.word_ops.specs.Clock.{IsTimed}
+use Rattle.word_ops.specs.Depth.{GoesDeeper}
+use Rattle.word_ops.specs.Laws.Clock.{IsTimed-Gives, IsTimed-then}
+use Rattle.word_ops.specs.Laws.Depth.{GoesDeeper-refl, GoesDeeper-then, GoesDeeper-tick, GoesDeeper-given, GoesDeeper-branch, GoesDeeper-loop, GoesDeeper-main}
 use Rattle.core_lang.specs.declared.act.Core.{Core, Row_of-Core, end_of-Core, more_of-Core}
 use Rattle.core_lang.specs.declared.act.Core.TheVariants as c
 use Rattle.core_lang.specs.declared.program.CoreFunction.{CoreFunction}
@@ -14,113 +16,7 @@ use Rattle.core_lang.specs.Layout.{Layout}
 use Rattle.core_lang.specs.State.{State, Activation, value_of_atom, values_of_atoms}
 use Rattle.core_lang.specs.Acts.{Invocation, Calls, Flow, Falls, Leaves, Returned, Does, assign_result, behind, in_turn, out_of_block, out_of_turn, turn_of, act, row, acts}
 use Rattle.core_lang.specs.Run.{calls, activation_of, first_state, value_given_back, program_from, first_call}
-use Rattle.core_lang.specs.Depth.{GoesDeeper}
 use Rattle.core_lang.specs.Laws.Clock.{IsTimed-assign_result, IsTimed-behind, IsTimed-row, IsTimed-acts, IsTimed-calls}
-
--- ---- the ways to put runs together
-
--- a run that makes no calls
-pub GoesDeeper-refl : {S A : Type 0} (r : Run S A) → GoesDeeper r r
-GoesDeeper-refl (Gives s u a) = refl
-GoesDeeper-refl (Ends Deep u) = Reaches-refl u
-GoesDeeper-refl (Ends More u) = refl
-GoesDeeper-refl (Ends (Exit n) u) = refl
-GoesDeeper-refl Undefined = refl
-
-then_reaches : {S T A B : Type 0} (w : Outside) (r : Run S A) (g : S → Outside → A → Run T B) → RunReaches w r →
-    ((s : S) (a : A) → IsTimed (λ w. g s w a)) → RunReaches w (then_do r g)
-then_reaches w (Gives s u a) g h t = RunReaches-earlier w u (g s u a) h ((t s a).reaches u)
-then_reaches w (Ends More u) g h t = h
-then_reaches w (Ends Deep u) g h t = h
-then_reaches w (Ends (Exit n) u) g h t = h
-then_reaches w Undefined g h t = tt
-
--- what goes on is told what the first run gave
-pub GoesDeeper-then_at : {S T A B : Type 0} (r q : Run S A) (f g : S → Outside → A → Run T B) → GoesDeeper r q →
-    ((s : S) (w : Outside) (a : A) → r ≡ Gives s w a → GoesDeeper (f s w a) (g s w a)) →
-    ((s : S) (a : A) → IsTimed (λ w. g s w a)) → GoesDeeper (then_do r f) (then_do q g)
-GoesDeeper-then_at (Gives s u a) q f g h go t =
-    subst (λ q. GoesDeeper (f s u a) (then_do q g)) (sym h) (go s u a refl)
-GoesDeeper-then_at (Ends Deep u) q f g h go t = then_reaches u q g h t
-GoesDeeper-then_at (Ends More u) q f g h go t = ap (λ q. then_do q g) h
-GoesDeeper-then_at (Ends (Exit n) u) q f g h go t = ap (λ q. then_do q g) h
-GoesDeeper-then_at Undefined q f g h go t = ap (λ q. then_do q g) h
-
-pub GoesDeeper-then : {S T A B : Type 0} (r q : Run S A) (f g : S → Outside → A → Run T B) → GoesDeeper r q →
-    ((s : S) (w : Outside) (a : A) → GoesDeeper (f s w a) (g s w a)) →
-    ((s : S) (a : A) → IsTimed (λ w. g s w a)) → GoesDeeper (then_do r f) (then_do q g)
-GoesDeeper-then r q f g h go t = GoesDeeper-then_at r q f g h (λ s w a e. go s w a) t
-
-pub GoesDeeper-tick : {S A : Type 0} (w : Outside) (f g : Outside → Run S A) →
-    ((u : Outside) → u.left < w.left → GoesDeeper (f u) (g u)) → GoesDeeper (tick w f) (tick w g)
-GoesDeeper-tick {S} {A} w f g go = from w.left refl
-  where
-    from : (n : ℕ) → w.left ≡ n → GoesDeeper (tick_from n w f) (tick_from n w g)
-    from zero e = refl
-    from (suc n) e = go (record w { left = n }) (omega (arith, e))
-
-pub GoesDeeper-given : {S A B : Type 0} (o : Option A) (f g : A → Run S B) → ((a : A) → GoesDeeper (f a) (g a)) →
-    GoesDeeper (given o f) (given o g)
-GoesDeeper-given None f g go = refl
-GoesDeeper-given (Some a) f g go = go a
-
-pub GoesDeeper-branch : {S A : Type 0} (b : Bool) (f g h k : S → Outside → Run S A) (s : S) (w : Outside) →
-    GoesDeeper (f s w) (h s w) → GoesDeeper (g s w) (k s w) → GoesDeeper (branch b f g s w) (branch b h k s w)
-GoesDeeper-branch true f g h k s w a b = a
-GoesDeeper-branch false f g h k s w a b = b
-
--- ---- loops
-
-turn_timed : {S D : Type 0} (g : S → Outside → Run S (Turn D)) → ((s : S) → IsTimed (g s)) → (s : S) (t : Turn D) →
-    IsTimed (λ w. after_turn t (loop g s) s w)
-turn_timed g t s Again = IsTimed-tick (loop g s) (IsTimed-loop g t s)
-turn_timed g t s (Over d) = IsTimed-Gives s d
-
--- an iteration, and what comes behind it with fewer ticks
-turn_deeper : {S D : Type 0} (f g : S → Outside → Run S (Turn D)) → ((s : S) → IsTimed (f s)) →
-    ((s : S) → IsTimed (g s)) → ((s : S) (w : Outside) → GoesDeeper (f s w) (g s w)) → (s : S) (w : Outside) →
-    ((s : S) (u : Outside) → u.left < w.left → GoesDeeper (loop f s u) (loop g s u)) →
-    GoesDeeper (loop f s w) (loop g s w)
-turn_deeper {S} {D} f g tf tg go s w next =
-    subst (λ r. GoesDeeper r (loop g s w)) (sym (loop-first f tf s w)) (subst (λ q. GoesDeeper (then_do (f s w) (λ s w t. after_turn t (loop f s) s w)) q) (sym (loop-first g tg s w)) (GoesDeeper-then_at (f s w) (g s w) (λ s w t. after_turn t (loop f s) s w) (λ s w t. after_turn t (loop g s) s w) (go s w) (λ s' u t e. after s' u t (subst (λ r. RunReaches w r) e ((tf s).reaches w)).left) (λ s t. turn_timed g tg s t)))
-  where
-    after : (s : S) (u : Outside) (t : Turn D) → u.left ≤ w.left →
-        GoesDeeper (after_turn t (loop f s) s u) (after_turn t (loop g s) s u)
-    after s u Again le = GoesDeeper-tick u (loop f s) (loop g s) (λ v lt. next s v (omega (arith, le, lt)))
-    after s u (Over d) le = refl
-
-loops_deeper : {S D : Type 0} (n : ℕ) (f g : S → Outside → Run S (Turn D)) → ((s : S) → IsTimed (f s)) →
-    ((s : S) → IsTimed (g s)) → ((s : S) (w : Outside) → GoesDeeper (f s w) (g s w)) → (s : S) (w : Outside) →
-    w.left ≤ n → GoesDeeper (loop f s w) (loop g s w)
-loops_deeper zero f g tf tg go s w le = turn_deeper f g tf tg go s w (λ s u lt. absurd (omega (arith, lt, le)))
-loops_deeper (suc n) f g tf tg go s w le =
-    turn_deeper f g tf tg go s w (λ s u lt. loops_deeper n f g tf tg go s u (omega (arith, lt, le)))
-
-pub GoesDeeper-loop : {S D : Type 0} (f g : S → Outside → Run S (Turn D)) → ((s : S) → IsTimed (f s)) →
-    ((s : S) → IsTimed (g s)) → ((s : S) (w : Outside) → GoesDeeper (f s w) (g s w)) → (s : S) (w : Outside) →
-    GoesDeeper (loop f s w) (loop g s w)
-GoesDeeper-loop f g tf tg go s w = loops_deeper w.left f g tf tg go s w (omega arith)
-
--- ---- main
-
-main_reaches : {S : Type 0} (w : Outside) (r : Run S (Option Value)) → RunReaches w r → RunReaches w (end_of_main r)
-main_reaches w (Gives s u None) h = h
-main_reaches w (Gives s u (Some (Number n))) h = h
-main_reaches w (Gives s u (Some (Pointer r o))) h = tt
-main_reaches w (Ends More u) h = h
-main_reaches w (Ends Deep u) h = h
-main_reaches w (Ends (Exit n) u) h = h
-main_reaches w Undefined h = h
-
-pub GoesDeeper-main : {S : Type 0} (r q : Run S (Option Value)) → GoesDeeper r q →
-    GoesDeeper (end_of_main r) (end_of_main q)
-GoesDeeper-main (Gives s u None) q h = ap end_of_main h
-GoesDeeper-main (Gives s u (Some (Number n))) q h = ap end_of_main h
-GoesDeeper-main (Gives s u (Some (Pointer r o))) q h = ap end_of_main h
-GoesDeeper-main (Ends Deep u) q h = main_reaches u q h
-GoesDeeper-main (Ends More u) q h = ap end_of_main h
-GoesDeeper-main (Ends (Exit n) u) q h = ap end_of_main h
-GoesDeeper-main Undefined q h = ap end_of_main h
 
 -- ---- acts
 

@@ -1,8 +1,8 @@
 -- Laws of filling: an object that may be written is filled by stores of zeros.
+-- No contract cites this file: it holds proofs.
 use Rattle.std.proofs.Common.{◌≡◌, refl, sym, ap, ◌∙◌, subst, ℕ, zero, suc, ◌+◌, ◌*◌, ◌≤◌, List, [], ◌∷◌, ◌++◌, length, take, drop, arith, ⊎_elim, replicate, length-append, length-drop}
 use Rattle.std.proofs.Math.Nat.{suc-mul}
-use Rattle.std.proofs.lemmas.List.{length-replicate}
-use Rattle.std.proofs.lemmas.Option.{same_Some}
+use Rattle.std.proofs.lemmas.List.{append-nil, length-replicate}
 use Rattle.std.proofs.lemmas.Bool.Decides.{eqb_tells, nat_tests}
 use Rattle.std.specs.Prelude.{Some, Bool, true, false, not, ◌&&◌, ◌==◌, ◌/◌, ◌%◌, nat_le, slice_get, slice_set}
 use Rattle.std.specs.Option.{option_and_then}
@@ -11,7 +11,7 @@ use Rattle.word_ops.specs.declared.operation.Width.TheVariants.{U8, S8, U16, S16
 use Rattle.word_ops.specs.Choice.{only_if, when}
 use Rattle.word_ops.specs.Store.{Number, Pointer, Cell, Byte, Region, Store, change_found, refill_region}
 use Rattle.word_ops.specs.Access.{bytes_of, number_cells, may_access, with_cells, put_in, put_cells, is_constant_in, initialise, write}
-use Rattle.word_ops.specs.Laws.Lists.{slice_get-slice_set}
+use Rattle.word_ops.specs.Laws.Lists.{slice_get-slice_set, slice_set-twice, slice_set-same}
 use Rattle.core_lang.specs.Filling.{widths_of_fill, store_zeros}
 
 -- ---- lists
@@ -36,16 +36,6 @@ all_zeros : (cs : List Cell) → zeros (length cs) ++ drop (length cs) cs ≡ ze
 all_zeros [] = refl
 all_zeros (c ∷ cs) = ap (λ l. Byte 0 ∷ l) (all_zeros cs)
 
-slice_set_twice : {A : Type 0} (xs : List A) (r : ℕ) (x y : A) → slice_set (slice_set xs r x) r y ≡ slice_set xs r y
-slice_set_twice [] r x y = refl
-slice_set_twice (z ∷ xs) zero x y = refl
-slice_set_twice (z ∷ xs) (suc r) x y = ap (λ l. z ∷ l) (slice_set_twice xs r x y)
-
-slice_set_same : {A : Type 0} (xs : List A) (r : ℕ) (x : A) → slice_get xs r ≡ Some x → slice_set xs r x ≡ xs
-slice_set_same [] r x e = refl
-slice_set_same (z ∷ xs) zero x e = ap (λ z. z ∷ xs) (sym (same_Some z x e))
-slice_set_same (z ∷ xs) (suc r) x e = ap (λ l. z ∷ l) (slice_set_same xs r x e)
-
 -- ---- stores of zeros
 
 -- a region whose first cells are zero
@@ -67,10 +57,6 @@ zero_cells_of Word = refl
 is_true : (a b : ℕ) → a ≡ b → a == b ≡ true
 is_true a b e = ⊎_elim (λ t. t.0) (λ n. absurd (n.1 e)) (eqb_tells a b)
 
-append_none : {A : Type 0} (xs : List A) → xs ++ [] ≡ xs
-append_none [] = refl
-append_none (x ∷ xs) = ap (λ l. x ∷ l) (append_none xs)
-
 may_true : (live : Bool) (o b n : ℕ) (a : Bool) → live ≡ true → a ≡ true → o + b ≤ n → live && (a && nat_le (o + b) n) ≡ true
 may_true true o b n true l q le = grind (arith, nat_tests)
 may_true false o b n a l q le = absurd (false_true l)
@@ -81,6 +67,14 @@ may_true true o b n false l q le = absurd (false_true q)
   where
     false_true : false ≡ true → ⊥
     false_true e = cc
+
+-- the next place of a width is aligned
+pub next_aligned : (k : Width) (o : ℕ) → o % bytes_of k ≡ 0 → (o + bytes_of k) % bytes_of k ≡ 0
+next_aligned U8 o h = omega (arith, h)
+next_aligned S8 o h = omega (arith, h)
+next_aligned U16 o h = omega (arith, h)
+next_aligned S16 o h = omega (arith, h)
+next_aligned Word o h = omega (arith, h)
 
 module _ (s : Store) (r : ℕ) (g : Region) (there : slice_get s r ≡ Some g) (alive : g.live ≡ true) (modifiable : g.constant ≡ false) where
   abbrev at : ℕ → Store
@@ -97,7 +91,7 @@ module _ (s : Store) (r : ℕ) (g : Region) (there : slice_get s r ≡ Some g) (
       let z = zeroed g o in
       let access : may_access z (length (zeros b)) b o ≡ true = ap (λ n. may_access z n b o) (length-replicate b (Byte 0)) ∙ ap (λ n. g.live && ((o % b == 0) && nat_le (o + b) n)) (length_zeroed g o (omega (arith, le))) ∙ may_true g.live o b (length g.cells) (o % b == 0) alive aligned le in
       let cells : (with_cells z o (zeros b)).cells ≡ (zeroed g (o + b)).cells = ap (λ n. take o z.cells ++ (zeros b ++ drop (o + n) z.cells)) (length-replicate b (Byte 0)) ∙ more_zeros o b g.cells (omega (arith, le)) in
-      let put : put_cells (at o) (Pointer r o) b (zeros b) ≡ Some (at (o + b)) = ap (put_in (at o) r o b (zeros b)) (at_there o) ∙ ap (λ t. only_if t (slice_set (at o) r (with_cells z o (zeros b)))) access ∙ ap (λ st. Some st) (slice_set_twice s r z (with_cells z o (zeros b))) ∙ ap (λ cs. Some (slice_set s r (record g { cells = cs }))) cells in
+      let put : put_cells (at o) (Pointer r o) b (zeros b) ≡ Some (at (o + b)) = ap (put_in (at o) r o b (zeros b)) (at_there o) ∙ ap (λ t. only_if t (slice_set (at o) r (with_cells z o (zeros b)))) access ∙ ap (λ st. Some st) (slice_set-twice s r z (with_cells z o (zeros b))) ∙ ap (λ cs. Some (slice_set s r (record g { cells = cs }))) cells in
       ap (λ x. when (not (is_constant_in x)) (initialise (at o) k (Pointer r o) (Number 0))) (at_there o)
       ∙ ap (λ c. when (not c) (initialise (at o) k (Pointer r o) (Number 0))) modifiable
       ∙ ap (put_cells (at o) (Pointer r o) b) (zero_cells_of k)
@@ -113,13 +107,6 @@ module _ (s : Store) (r : ℕ) (g : Region) (there : slice_get s r ≡ Some g) (
   many o (k ∷ ks) h =
       ap (option_and_then (λ t. store_zeros t r (o + bytes_of k) ks)) (one k o h.0 h.1) ∙ many (o + bytes_of k) ks h.2
 
-  next_aligned : (k : Width) (o : ℕ) → o % bytes_of k ≡ 0 → (o + bytes_of k) % bytes_of k ≡ 0
-  next_aligned U8 o h = omega (arith, h)
-  next_aligned S8 o h = omega (arith, h)
-  next_aligned U16 o h = omega (arith, h)
-  next_aligned S16 o h = omega (arith, h)
-  next_aligned Word o h = omega (arith, h)
-
   -- several of one width, and others behind them
   several : (k : Width) (m o : ℕ) (ks : List Width) → o % bytes_of k ≡ 0 → o + m * bytes_of k ≤ length g.cells →
       Fits (o + m * bytes_of k) ks → Fits o (replicate m k ++ ks)
@@ -130,11 +117,11 @@ module _ (s : Store) (r : ℕ) (g : Region) (there : slice_get s r ≡ Some g) (
 
   fits : (n : ℕ) → n ≡ length g.cells → Fits 0 (widths_of_fill n)
   fits n e =
-      several Word (n / 4) 0 (replicate (n % 4 / 2) U16 ++ replicate (n % 2) U8) refl (omega (arith, e)) (several U16 (n % 4 / 2) (0 + n / 4 * 4) (replicate (n % 2) U8) (omega arith) (omega (arith, e)) (subst (Fits (0 + n / 4 * 4 + n % 4 / 2 * 2)) (append_none (replicate (n % 2) U8)) (several U8 (n % 2) (0 + n / 4 * 4 + n % 4 / 2 * 2) [] (omega arith) (omega (arith, e)) (omega (arith, e)))))
+      several Word (n / 4) 0 (replicate (n % 4 / 2) U16 ++ replicate (n % 2) U8) refl (omega (arith, e)) (several U16 (n % 4 / 2) (0 + n / 4 * 4) (replicate (n % 2) U8) (omega arith) (omega (arith, e)) (subst (Fits (0 + n / 4 * 4 + n % 4 / 2 * 2)) (append-nil (replicate (n % 2) U8)) (several U8 (n % 2) (0 + n / 4 * 4 + n % 4 / 2 * 2) [] (omega arith) (omega (arith, e)) (omega (arith, e)))))
 
   filled : store_zeros s r 0 (widths_of_fill (length g.cells)) ≡ Some (refill_region s r (Byte 0))
   filled =
-      ap (λ s. store_zeros s r 0 (widths_of_fill (length g.cells))) (sym (slice_set_same s r (zeroed g 0) there))
+      ap (λ s. store_zeros s r 0 (widths_of_fill (length g.cells))) (sym (slice_set-same s r (zeroed g 0) there))
       ∙ many 0 (widths_of_fill (length g.cells)) (fits (length g.cells) refl)
       ∙ ap (λ cs. Some (slice_set s r (record g { cells = cs }))) (all_zeros g.cells)
       ∙ ap (λ x. Some (change_found s r (λ g. record g { cells = replicate (length g.cells) (Byte 0) }) x)) (sym there)

@@ -1,4 +1,5 @@
 -- Induction over acts: where each act without acts in it does in one state what it does in another, so do all acts.
+-- No contract cites this file: it holds proofs.
 use Rattle.std.proofs.Common.{◌≡◌, refl, ℕ, zero, suc}
 use Rattle.std.specs.Prelude.{Option, Some, Bool, List, [], ◌∷◌}
 use Rattle.word_ops.specs.Store.{Value}

@@ -1,4 +1,5 @@
 -- What acts keep of a state, by induction over acts.
+-- No contract cites this file: it holds proofs.
 use Rattle.std.proofs.Common.{◌≡◌, refl, subst, ℕ, zero, suc}
 use Rattle.std.specs.Prelude.{Option, Some, None, List, [], ◌∷◌}
 use Rattle.word_ops.specs.Store.{Value, Number, Pointer, Store}

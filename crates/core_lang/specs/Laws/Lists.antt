@@ -1,4 +1,5 @@
 -- Laws of acts one after another, and of the lists that stand in acts.
+-- No contract cites this file: it holds proofs.
 use Rattle.std.proofs.Common.{◌≡◌, refl, sym, ap, ◌∙◌, List, [], ◌∷◌, ◌++◌}
 use Rattle.word_ops.specs.Run.{Outside, Run, Gives, Ends, Undefined, then_do}
 use Rattle.core_lang.specs.declared.act.Atom.{Atom}

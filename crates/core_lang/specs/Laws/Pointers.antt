@@ -1,4 +1,5 @@
 -- Laws of operations on pointers: each is an operation on values.
+-- No contract cites this file: it holds proofs.
 use Rattle.std.proofs.Common.{◌≡◌}
 use Rattle.std.specs.Prelude.{Some}
 use Rattle.word_ops.specs.Store.{Value, Store}

@@ -1,4 +1,5 @@
 -- Laws of regions: acts and calls leave the regions that were there, with their sizes, flags and addresses.
+-- No contract cites this file: it holds proofs.
 use Rattle.std.proofs.Common.{◌≡◌, refl, ℕ, zero, suc, ◌+◌, length, arith, true, false}
 use Rattle.std.proofs.lemmas.Option.{none-some}
 use Rattle.std.specs.Prelude.{Option, Some, None, Bool, List, not, ◌||◌, ◌/◌, ◌==◌, slice_get}

@@ -1,4 +1,5 @@
 -- Laws of static objects: the store as a program begins is addressed, so main may be called.
+-- No contract cites this file: it holds proofs.
 use Rattle.std.proofs.Common.{◌≡◌, refl, sym, ap, ◌∙◌, subst, ℕ, zero, suc, ◌+◌, inl, inr, ⊎_elim, List, [], ◌∷◌, ◌++◌, length, arith}
 use Rattle.std.proofs.lemmas.List.{length-replicate}
 use Rattle.std.proofs.lemmas.Option.{none-some, same_Some}
@@ -9,7 +10,7 @@ use Rattle.word_ops.specs.Addresses.{IsOffsetIn, IsValueIn, AreCellsIn, IsAddres
 use Rattle.word_ops.specs.Run.{Outside}
 use Rattle.word_ops.specs.Laws.Regions.{shape_at-region, shape_at-some}
 use Rattle.word_ops.specs.Laws.Accesses.{length-with_cells}
-use Rattle.word_ops.specs.Laws.Addresses.{AreCellsIn-replicate}
+use Rattle.word_ops.specs.Laws.Addresses.{AreCellsIn-append, AreCellsIn-take, AreCellsIn-drop, AreCellsIn-replicate}
 use Rattle.core_lang.specs.declared.program.Part.{Part}
 use Rattle.core_lang.specs.declared.program.Program.{Program}
 use Rattle.core_lang.specs.declared.program.Start.{Start}
@@ -20,7 +21,7 @@ use Rattle.core_lang.specs.Run.{cells_of_start, with_parts, static_region, stati
 use Rattle.core_lang.specs.WellFormed.{bytes_of_start, IsPlaceIn, IsStartIn, ArePartsIn, IsWellFormed}
 use Rattle.core_lang.specs.Addresses.{IsLayoutOf, KeepsAddresses, IsCallable}
 use Rattle.core_lang.specs.Following.{OnGives}
-use Rattle.core_lang.specs.Laws.Addresses.{cells_append, cells_take, cells_drop, calls-sound}
+use Rattle.core_lang.specs.Laws.Addresses.{calls-sound}
 
 -- ---- the regions
 
@@ -107,7 +108,7 @@ module _ (l : Layout) (p : Program) (depth : ℕ) (layout : IsLayoutOf l p depth
   parts_cells g [] n h i = i
   parts_cells g (y ∷ ys) n h i =
       let cs = cells_of_start y.word in
-      parts_cells (with_cells g y.offset cs) ys n h.3 (cells_append store (take y.offset g.cells) (cs ++ drop (y.offset + length cs) g.cells) (cells_take store y.offset g.cells i) (cells_append store cs (drop (y.offset + length cs) g.cells) (start_cells y.offset y.word h.1) (cells_drop store (y.offset + length cs) g.cells i)))
+      parts_cells (with_cells g y.offset cs) ys n h.3 (AreCellsIn-append store (take y.offset g.cells) (cs ++ drop (y.offset + length cs) g.cells) (AreCellsIn-take store y.offset g.cells i) (AreCellsIn-append store cs (drop (y.offset + length cs) g.cells) (start_cells y.offset y.word h.1) (AreCellsIn-drop store (y.offset + length cs) g.cells i)))
 
   static_addressed : IsAddressed store
   static_addressed = record {

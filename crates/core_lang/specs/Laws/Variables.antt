@@ -1,4 +1,5 @@
 -- Laws of variables: what an assignment changes, and that acts change no variable that they do not assign.
+-- No contract cites this file: it holds proofs.
 use Rattle.std.proofs.Common.{◌≡◌, ◌≢◌, refl, ap, ◌∙◌, subst, ℕ, zero, suc, ◌+◌, ◌≤◌, ⊎_elim, List, [], ◌∷◌, length, arith}
 use Rattle.std.proofs.lemmas.Bool.Decides.{eqb_tells}
 use Rattle.std.proofs.lemmas.Option.{none-some, same_Some}

@@ -1,4 +1,5 @@
 -- Laws of well-formed acts: lists that stand in acts, and one list behind another.
+-- No contract cites this file: it holds proofs.
 use Rattle.std.proofs.Common.{◌≡◌, refl, ap, ◌∙◌, ℕ, suc, ◌+◌, inl, inr, ⊎_elim, List, [], ◌∷◌, ◌++◌, arith}
 use Rattle.std.specs.Prelude.{Option, Some, None}
 use Rattle.core_lang.specs.declared.act.Atom.{Atom}

@@ -1,18 +1,19 @@
 -- Laws of worlds: which changes keep one, and which values are those of its store.
+-- No contract cites this file: it holds proofs.
 use Rattle.std.proofs.Common.{◌≡◌, refl, sym, ◌∙◌, ap, subst, arith, ℕ, ◌^◌, ◌<◌, inl, inr, Bool, true, false, List, Option, Some, None}
 use Rattle.std.specs.Prelude.{◌-◌, ◌==◌, if◌then◌else◌, nat_eq}
 use Rattle.std.proofs.lemmas.Bool.{eqb-true, eq-eqb}
 use Rattle.std.specs.Option.{option_and_then}
 use Rattle.word_ops.specs.declared.operation.Width.{Width}
-use Rattle.word_ops.specs.declared.operation.Width.TheVariants.{U8, S8, U16, S16, Word}
 use Rattle.word_ops.specs.declared.operation.Op.{Op}
 use Rattle.word_ops.specs.Store.{Value, Number, Pointer, Cell, Store, Shape, shape_at}
-use Rattle.word_ops.specs.Access.{decode, cells_at, load, write, IsInRange}
+use Rattle.word_ops.specs.Access.{decode, cells_at, load, write}
 use Rattle.word_ops.specs.Values.{value_of_operation}
 use Rattle.word_ops.specs.Addresses.{word_of_value, IsValueIn, IsOffsetIn, IsAddressed}
 use Rattle.word_ops.specs.Changes.{SameRegions, Fades, MayLoad, IsInRangeUnless}
 use Rattle.word_ops.specs.Laws.Regions.{SameShapes-regions, Fades-shapes}
 use Rattle.word_ops.specs.Laws.Accesses.{write-shapes}
+use Rattle.word_ops.specs.Laws.Widths.{IsInRange-small}
 use Rattle.word_ops.specs.Laws.Addresses.{load-in, IsAddressed-write, IsAddressed-fades}
 use Rattle.word_ops.specs.Laws.Values.{operation-same, IsValueIn-same, word_of_value-same}
 use Rattle.term_form.specs.declared.term.Root.{Root}
@@ -72,15 +73,6 @@ IsOfRoot-inside w (Param i) v h k = k
 IsOfRoot-inside w Got v h k = byte_inside w.store v k
 IsOfRoot-inside w Called v h k = k
 
-range_small : (k : Width) (n : ℕ) → IsInRange k n → n < 2 ^ 32
-range_small U8 n h = omega (arith, h)
-range_small S8 n (inl h) = omega (arith, h)
-range_small S8 n (inr h) = h.1
-range_small U16 n h = omega (arith, h)
-range_small S16 n (inl h) = omega (arith, h)
-range_small S16 n (inr h) = h.1
-range_small Word n h = h
-
 -- what a load may give is a value of the store
 pub MayLoad-inside : (s : Store) (k : Width) (p : Value) (cells : List Cell) (v : Value) → IsAddressed s → cells_at s k p ≡ Some cells →
     MayLoad s k cells v → IsInRangeUnless k (decode k cells) v → IsValueIn s v
@@ -88,7 +80,7 @@ MayLoad-inside s k p cells v a c m r = by (decode k cells) refl r
   where
     by : (o : Option Value) → decode k cells ≡ o → IsInRangeUnless k o v → IsValueIn s v
     by (Some u) d r = load-in s k p v a (ap (option_and_then (decode k)) c ∙ d ∙ ap Some (sym (m.defined u d)))
-    by None d r = subst (IsValueIn s) (sym r.1) (range_small k r.0 r.2)
+    by None d r = subst (IsValueIn s) (sym r.1) (IsInRange-small k r.0 r.2)
 
 -- ---- nodes in other worlds
 

@@ -1,7 +1,7 @@
 -- Laws of what a load gives in a walk.
+-- No contract cites this file: it holds proofs.
 use Rattle.std.proofs.Common.{◌≡◌, refl, sym, ◌∙◌, ap, subst, arith, ℕ, suc, ◌+◌, ◌*◌, List, [], ◌∷◌, length, Option, Some, None}
 use Rattle.std.proofs.Math.Nat.{mod-mod}
-use Rattle.std.proofs.lemmas.Nat.{mod-pow-add}
 use Rattle.std.specs.Prelude.{◌/◌, ◌%◌, ◌^◌, unwrap_or}
 use Rattle.std.specs.Option.{option_map, option_or}
 use Rattle.word_ops.specs.declared.operation.Width.{Width}
@@ -12,6 +12,7 @@ use Rattle.word_ops.specs.Changes.{HasBytes, MayLoad, IsInRangeUnless}
 use Rattle.word_ops.specs.Laws.Widths.{narrowed_to-same, narrowed_to-is, narrowed_to-in_range}
 use Rattle.word_ops.specs.Laws.Loads.{length-cells_from, load-some}
 use Rattle.word_ops.specs.Laws.MayLoads.{MayLoad-decode}
+use Rattle.word_ops.specs.Laws.Bytes.{low_bytes-first}
 use Rattle.term_form.specs.Walk.{number_with, value_of_cells, loaded}
 
 -- a load that is defined gives its value
@@ -22,15 +23,12 @@ loaded-load s k n p v e =
 
 -- ---- the number of a choice
 
-low_byte : (n l : ℕ) → n % 2 ^ (8 * suc l) ≡ (n / 256 % 2 ^ (8 * l)) * 256 + n % 256
-low_byte n l = let more : 8 * suc l ≡ 8 * l + 8 = omega arith in ap (λ j. n % 2 ^ j) more ∙ mod-pow-add n (8 * l) 8
-
 -- a number with the bytes of the cells is told by itself
 pub number_with-same : (cs : List Cell) (n : ℕ) → HasBytes cs n → number_with cs n ≡ n % 2 ^ (8 * length cs)
 number_with-same [] n h = omega arith
-number_with-same (Unset ∷ cs) n h = let e = number_with-same cs (n / 256) h in omega (arith, e, low_byte n (length cs))
-number_with-same (Byte b ∷ cs) n h = let e = number_with-same cs (n / 256) h.1 in let f = h.0 in omega (arith, e, f, low_byte n (length cs))
-number_with-same (Part k r o ∷ cs) n h = let e = number_with-same cs (n / 256) h in omega (arith, e, low_byte n (length cs))
+number_with-same (Unset ∷ cs) n h = let e = number_with-same cs (n / 256) h in omega (arith, e, low_bytes-first n (length cs))
+number_with-same (Byte b ∷ cs) n h = let e = number_with-same cs (n / 256) h.1 in let f = h.0 in omega (arith, e, f, low_bytes-first n (length cs))
+number_with-same (Part k r o ∷ cs) n h = let e = number_with-same cs (n / 256) h in omega (arith, e, low_bytes-first n (length cs))
 
 -- the cells with bytes of the choice where they are no bytes
 abbrev filled : List Cell → ℕ → List Cell
@@ -97,5 +95,5 @@ loaded-allowed s k p cs n v c e = go (decode k cs) refl
     go None d =
         let same : Number (narrowed_to k (number_with cs n)) ≡ v = ap (λ o. unwrap_or o (Number (narrowed_to k (number_with cs n)))) (sym d) ∙ is in
         let may : MayLoad s k cs (Number (narrowed_to k (number_with cs n))) =
-        record { defined = λ u f. absurd (no_some u (sym d ∙ f)); bytes = HasBytes-number_with s k cs n l } in
+        record { defined = λ u f. absurd (no_some u (sym d ∙ f)); bytes = HasBytes-number_with s k cs n l; kind = tt } in
         (subst (MayLoad s k cs) same may, (narrowed_to k (number_with cs n), sym same, narrowed_to-in_range k (number_with cs n)))

@@ -1,7 +1,8 @@
 -- Laws of walks.
+-- No contract cites this file: it holds proofs.
 use Rattle.std.proofs.Common.{◌≡◌, refl, ℕ, zero, suc, List, [], ◌∷◌, ◌++◌, Option}
 use Rattle.std.specs.Prelude.{nat_le, slice_get}
-use Rattle.word_ops.specs.Store.{Value, Number, Store as Objects}
+use Rattle.word_ops.specs.Store.{Value, Number, number_of, Store as Objects}
 use Rattle.word_ops.specs.Run.{Outside, Run, Gives, Ends, Undefined, then_do, given, tick, put_byte, exit_with, end_of_main}
 use Rattle.word_ops.specs.Access.{write}
 use Rattle.word_ops.specs.Clock.{IsTimed}
@@ -13,7 +14,7 @@ use Rattle.term_form.specs.declared.graph.Item.TheVariants.{Define, Store, Call,
 use Rattle.term_form.specs.declared.graph.Ending.{Ending}
 use Rattle.term_form.specs.declared.graph.Ending.TheVariants.{Jump, Branch, Return, Stop}
 use Rattle.term_form.specs.declared.graph.EdgeArgument.{EdgeArgument}
-use Rattle.term_form.specs.Walk.{Program, Layout, Caller, Walk, walk, walk_of_program, going, step, step_from, item_step, end_step, call, entered, returned, along, arriving, value_of_node, set_value, number_of, width_of}
+use Rattle.term_form.specs.Walk.{Program, Layout, Caller, Walk, walk, walk_of_program, going, step, step_from, item_step, end_step, call, entered, returned, along, arriving, value_of_node, set_value, width_of}
 
 -- ---- walks one behind the other
 

@@ -1,5 +1,7 @@
 -- Laws of stores: what they change, and what a load then gives.
+-- No contract cites this file: it holds proofs.
 use Rattle.std.proofs.Common.{◌≡◌, refl, sym, ap, ◌∙◌, ℕ, zero, suc, ◌+◌, ◌≤◌, List, ◌++◌, length, take, drop, arith, ⊎_elim, length-append, length-drop}
+use Rattle.std.proofs.lemmas.Bool.{and_from, eq-eqb, le-leb}
 use Rattle.std.proofs.lemmas.Bool.Decides.{eqb_tells, nat_tests}
 use Rattle.std.proofs.lemmas.List.{length-take-le}
 use Rattle.std.proofs.lemmas.Option.{none-some, same_Some, option_and_then_some}
@@ -88,6 +90,11 @@ may_access-true g n a o e =
     let h = and_both g.live ((o % a == 0) && nat_le (o + n) (length g.cells)) e in
     let k = and_both (o % a == 0) (nat_le (o + n) (length g.cells)) h.1 in
     record { live = h.0; aligned = let t = k.0 in grind (arith, nat_tests); within = let t = k.1 in grind (arith, nat_tests) }
+
+-- the same told as one truth
+pub MayAccess-true : (g : Region) (n a o : ℕ) → MayAccess g n a o → may_access g n a o ≡ true
+MayAccess-true g n a o h =
+    and_from g.live ((o % a == 0) && nat_le (o + n) (length g.cells)) h.live (and_from (o % a == 0) (nat_le (o + n) (length g.cells)) (eq-eqb (o % a) 0 h.aligned) (le-leb (o + n) (length g.cells) h.within))
 
 pub length-with_cells : (g : Region) (o : ℕ) (cs : List Cell) → o + length cs ≤ length g.cells →
     length (with_cells g o cs).cells ≡ length g.cells

@@ -1,4 +1,5 @@
 -- Laws of addresses: which changes of a store keep what is asked of its addresses and pointers.
+-- No contract cites this file: it holds proofs.
 use Rattle.std.proofs.Common.{◌≡◌, ◌≢◌, refl, sym, ap, ◌∙◌, subst, ℕ, zero, suc, ◌+◌, List, [], ◌∷◌, ◌++◌, length, take, drop, arith, ⊎_elim, ◌⊎◌, inl, inr}
 use Rattle.std.proofs.lemmas.Bool.Decides.{eqb_tells}
 use Rattle.std.proofs.lemmas.Option.{none-some, same_Some}
@@ -24,20 +25,20 @@ AreCellsIn-same s t (Unset ∷ cs) h k = AreCellsIn-same s t cs h k
 AreCellsIn-same s t (Byte b ∷ cs) h k = AreCellsIn-same s t cs h k
 AreCellsIn-same s t (Part j r o ∷ cs) h k = (IsValueIn-same s t (Pointer r o) h k.0, AreCellsIn-same s t cs h k.1)
 
-AreCellsIn-append : (s : Store) (cs ds : List Cell) → AreCellsIn s cs → AreCellsIn s ds → AreCellsIn s (cs ++ ds)
+pub AreCellsIn-append : (s : Store) (cs ds : List Cell) → AreCellsIn s cs → AreCellsIn s ds → AreCellsIn s (cs ++ ds)
 AreCellsIn-append s [] ds h k = k
 AreCellsIn-append s (Unset ∷ cs) ds h k = AreCellsIn-append s cs ds h k
 AreCellsIn-append s (Byte b ∷ cs) ds h k = AreCellsIn-append s cs ds h k
 AreCellsIn-append s (Part j r o ∷ cs) ds h k = (h.0, AreCellsIn-append s cs ds h.1 k)
 
-AreCellsIn-take : (s : Store) (n : ℕ) (cs : List Cell) → AreCellsIn s cs → AreCellsIn s (take n cs)
+pub AreCellsIn-take : (s : Store) (n : ℕ) (cs : List Cell) → AreCellsIn s cs → AreCellsIn s (take n cs)
 AreCellsIn-take s zero cs h = tt
 AreCellsIn-take s (suc n) [] h = tt
 AreCellsIn-take s (suc n) (Unset ∷ cs) h = AreCellsIn-take s n cs h
 AreCellsIn-take s (suc n) (Byte b ∷ cs) h = AreCellsIn-take s n cs h
 AreCellsIn-take s (suc n) (Part j r o ∷ cs) h = (h.0, AreCellsIn-take s n cs h.1)
 
-AreCellsIn-drop : (s : Store) (n : ℕ) (cs : List Cell) → AreCellsIn s cs → AreCellsIn s (drop n cs)
+pub AreCellsIn-drop : (s : Store) (n : ℕ) (cs : List Cell) → AreCellsIn s cs → AreCellsIn s (drop n cs)
 AreCellsIn-drop s zero cs h = h
 AreCellsIn-drop s (suc n) [] h = tt
 AreCellsIn-drop s (suc n) (Unset ∷ cs) h = AreCellsIn-drop s n cs h

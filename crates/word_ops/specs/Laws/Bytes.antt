@@ -1,4 +1,5 @@
 -- Laws of cells as bytes of a machine's memory.
+-- No contract cites this file: it holds proofs.
 use Rattle.std.proofs.Common.{◌≡◌, refl, sym, ap, ◌∙◌, subst, ℕ, zero, suc, ◌+◌, ◌*◌, ◌<◌, List, [], ◌∷◌, length, arith}
 use Rattle.std.proofs.lemmas.Bool.{false≢true, eqb-true}
 use Rattle.std.proofs.Math.Nat.{mod-mod}
@@ -59,11 +60,14 @@ HasCells-encode s k (Pointer r o) cs e =
 
 -- ---- what a machine loads
 
+-- the low bytes of a number are those of its rest and its lowest
+pub low_bytes-first : (n l : ℕ) → n % 2 ^ (8 * suc l) ≡ n / 256 % 2 ^ (8 * l) * 256 + n % 256
+low_bytes-first n l =
+    let more : 8 * suc l ≡ 8 * l + 8 = omega arith in ap (λ j. n % 2 ^ j) more ∙ mod-pow-add n (8 * l) 8
+
 low_bytes : (n m l : ℕ) (b : ℕ) → n % 256 ≡ b % 256 → n / 256 % 2 ^ (8 * l) ≡ m →
     n % 2 ^ (8 * suc l) ≡ b % 256 + 256 * m
-low_bytes n m l b e f =
-    let more : 8 * suc l ≡ 8 * l + 8 = omega arith in
-    ap (λ j. n % 2 ^ j) more ∙ mod-pow-add n (8 * l) 8 ∙ last (n / 256 % 2 ^ (8 * l)) f
+low_bytes n m l b e f = low_bytes-first n l ∙ last (n / 256 % 2 ^ (8 * l)) f
   where
     last : (q : ℕ) → q ≡ m → q * 256 + n % 256 ≡ b % 256 + 256 * m
     last q g = omega (arith, e, g)

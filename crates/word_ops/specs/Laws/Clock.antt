@@ -1,6 +1,8 @@
 -- Laws of the clock: a run takes of the input, the output and the ticks alone, and with a longer clock it is the same run,
 -- further.
+-- No contract cites this file: it holds proofs.
 use Rattle.std.proofs.Common.{◌≡◌, refl, sym, ap, ◌∙◌, subst, ℕ, zero, suc, ◌+◌, ◌≤◌, ◌<◌, List, [], ◌∷◌, ◌++◌, drop, arith, append_assoc}
+use Rattle.std.proofs.lemmas.List.{append-nil}
 use Rattle.std.specs.Prelude.{Option, Some, None, Bool, true, false, ◌%◌}
 use Rattle.word_ops.specs.Store.{Value, Number, Pointer}
 use Rattle.word_ops.specs.Clock.{Reaches, RunReaches, later, GoesOn, IsTimed}
@@ -8,13 +10,9 @@ use Rattle.word_ops.specs.Run.{Outside, Exit, Deep, More, Run, Gives, Ends, Unde
 
 -- ---- moments
 
-append_none : (xs : List ℕ) → xs ++ [] ≡ xs
-append_none [] = refl
-append_none (x ∷ xs) = ap (λ l. x ∷ l) (append_none xs)
-
 pub Reaches-refl : (w : Outside) → Reaches w w
 Reaches-refl w =
-    record { taken = []; put = []; input = refl; output = sym (append_none w.output); left = omega arith }
+    record { taken = []; put = []; input = refl; output = sym (append-nil w.output); left = omega arith }
 
 pub Reaches-trans : (w u v : Outside) → Reaches w u → Reaches u v → Reaches w v
 Reaches-trans w u v h k = record {
@@ -57,18 +55,19 @@ pub IsTimed-branch : {S A : Type 0} (b : Bool) (f g : S → Outside → Run S A)
 IsTimed-branch true f g s h k = record { reaches = h.reaches; goes_on = h.goes_on }
 IsTimed-branch false f g s h k = record { reaches = k.reaches; goes_on = k.goes_on }
 
-then_reaches : {S T A B : Type 0} (w : Outside) (r : Run S A) (g : S → Outside → A → Run T B) → RunReaches w r →
+-- a run reaches what comes behind it
+pub RunReaches-then : {S T A B : Type 0} (w : Outside) (r : Run S A) (g : S → Outside → A → Run T B) → RunReaches w r →
     ((s : S) (u : Outside) (a : A) → RunReaches u (g s u a)) → RunReaches w (then_do r g)
-then_reaches w (Gives s u a) g h k = RunReaches-earlier w u (g s u a) h (k s u a)
-then_reaches w (Ends More u) g h k = h
-then_reaches w (Ends Deep u) g h k = h
-then_reaches w (Ends (Exit n) u) g h k = h
-then_reaches w Undefined g h k = tt
+RunReaches-then w (Gives s u a) g h k = RunReaches-earlier w u (g s u a) h (k s u a)
+RunReaches-then w (Ends More u) g h k = h
+RunReaches-then w (Ends Deep u) g h k = h
+RunReaches-then w (Ends (Exit n) u) g h k = h
+RunReaches-then w Undefined g h k = tt
 
 then_goes_on : {S T A B : Type 0} (k : ℕ) (r q : Run S A) (g : S → Outside → A → Run T B) → GoesOn k r q →
     ((s : S) (a : A) → IsTimed (λ w. g s w a)) → GoesOn k (then_do r g) (then_do q g)
 then_goes_on k (Gives s u a) q g h t = subst (λ q. GoesOn k (g s u a) (then_do q g)) (sym h) ((t s a).goes_on k u)
-then_goes_on k (Ends More u) q g h t = then_reaches (later k u) q g h (λ s u a. (t s a).reaches u)
+then_goes_on k (Ends More u) q g h t = RunReaches-then (later k u) q g h (λ s u a. (t s a).reaches u)
 then_goes_on k (Ends Deep u) q g h t = ap (λ q. then_do q g) h
 then_goes_on k (Ends (Exit n) u) q g h t = ap (λ q. then_do q g) h
 then_goes_on k Undefined q g h t = ap (λ q. then_do q g) h
@@ -76,7 +75,7 @@ then_goes_on k Undefined q g h t = ap (λ q. then_do q g) h
 pub IsTimed-then : {S T A B : Type 0} (h : Outside → Run S A) (g : S → Outside → A → Run T B) → IsTimed h →
     ((s : S) (a : A) → IsTimed (λ w. g s w a)) → IsTimed (λ w. then_do (h w) g)
 IsTimed-then h g t k = record {
-  reaches = λ w. then_reaches w (h w) g (t.reaches w) (λ s u a. (k s a).reaches u);
+  reaches = λ w. RunReaches-then w (h w) g (t.reaches w) (λ s u a. (k s a).reaches u);
   goes_on = λ j w. then_goes_on j (h w) (h (later j w)) g (t.goes_on j w) k;
 }
 
@@ -84,7 +83,7 @@ IsTimed-then h g t k = record {
 
 one_less : (w : Outside) (n : ℕ) → w.left ≡ suc n → Reaches w (record w { left = n })
 one_less w n e =
-    record { taken = []; put = []; input = refl; output = sym (append_none w.output); left = omega (arith, e) }
+    record { taken = []; put = []; input = refl; output = sym (append-nil w.output); left = omega (arith, e) }
 
 tick_reaches : {S A : Type 0} (n : ℕ) (w : Outside) (g : Outside → Run S A) → w.left ≡ n →
     ((u : Outside) → RunReaches u (g u)) → RunReaches w (tick_from n w g)
@@ -134,7 +133,7 @@ IsTimed-get_byte g t = record {
   where
     step : (w : Outside) → Reaches w (record w { input = drop 1 w.input })
     step w =
-        let h = taken_is w.input in record { taken = h.0; put = []; input = h.1; output = sym (append_none w.output); left = omega arith }
+        let h = taken_is w.input in record { taken = h.0; put = []; input = h.1; output = sym (append-nil w.output); left = omega arith }
 
 -- ---- loops
 
@@ -213,6 +212,12 @@ IsTimed-loop turn t s = record {
   goes_on = λ k w. turns_go_on k w.left (w.left + k) turn t s w (omega arith) (omega arith);
 }
 
+-- what comes behind an iteration
+pub IsTimed-after_turn : {S D : Type 0} (t : Turn D) (f : Outside → Run S D) (s : S) → IsTimed f →
+    IsTimed (λ w. after_turn t f s w)
+IsTimed-after_turn Again f s h = IsTimed-tick f h
+IsTimed-after_turn (Over d) f s h = IsTimed-Gives s d
+
 -- a loop is its first iteration, and behind a tick the loop
 turn_same : {S D : Type 0} (w : Outside) (r : Run S (Turn D)) (next other : S → Outside → Run S D) → RunReaches w r →
     ((s : S) (u : Outside) → u.left < w.left → next s u ≡ other s u) →
@@ -254,25 +259,25 @@ IsTimed-nested body h zero x = record { reaches = λ w. Reaches-refl w; goes_on 
 IsTimed-nested body h (suc depth) x =
     let t = h (nested body depth) (λ x. IsTimed-nested body h depth x) x in record { reaches = t.reaches; goes_on = t.goes_on }
 
-main_reaches : {S : Type 0} (w : Outside) (r : Run S (Option Value)) → RunReaches w r → RunReaches w (end_of_main r)
-main_reaches w (Gives s u None) h = h
-main_reaches w (Gives s u (Some (Number n))) h = h
-main_reaches w (Gives s u (Some (Pointer r o))) h = tt
-main_reaches w (Ends More u) h = h
-main_reaches w (Ends Deep u) h = h
-main_reaches w (Ends (Exit n) u) h = h
-main_reaches w Undefined h = h
+pub RunReaches-main : {S : Type 0} (w : Outside) (r : Run S (Option Value)) → RunReaches w r → RunReaches w (end_of_main r)
+RunReaches-main w (Gives s u None) h = h
+RunReaches-main w (Gives s u (Some (Number n))) h = h
+RunReaches-main w (Gives s u (Some (Pointer r o))) h = tt
+RunReaches-main w (Ends More u) h = h
+RunReaches-main w (Ends Deep u) h = h
+RunReaches-main w (Ends (Exit n) u) h = h
+RunReaches-main w Undefined h = h
 
 main_goes_on : {S : Type 0} (k : ℕ) (r q : Run S (Option Value)) → GoesOn k r q →
     GoesOn k (end_of_main r) (end_of_main q)
 main_goes_on k (Gives s u None) q h = ap end_of_main h
 main_goes_on k (Gives s u (Some (Number n))) q h = ap end_of_main h
 main_goes_on k (Gives s u (Some (Pointer r o))) q h = ap end_of_main h
-main_goes_on k (Ends More u) q h = main_reaches (later k u) q h
+main_goes_on k (Ends More u) q h = RunReaches-main (later k u) q h
 main_goes_on k (Ends Deep u) q h = ap end_of_main h
 main_goes_on k (Ends (Exit n) u) q h = ap end_of_main h
 main_goes_on k Undefined q h = ap end_of_main h
 
 pub IsTimed-main : {S : Type 0} (h : Outside → Run S (Option Value)) → IsTimed h → IsTimed (λ w. end_of_main (h w))
 IsTimed-main h t =
-    record { reaches = λ w. main_reaches w (h w) (t.reaches w); goes_on = λ k w. main_goes_on k (h w) (h (later k w)) (t.goes_on k w) }
+    record { reaches = λ w. RunReaches-main w (h w) (t.reaches w); goes_on = λ k w. main_goes_on k (h w) (h (later k w)) (t.goes_on k w) }

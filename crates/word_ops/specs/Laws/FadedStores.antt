@@ -1,4 +1,5 @@
 -- Laws of two stores of which one has cells made Unset: the same changes keep them so.
+-- No contract cites this file: it holds proofs.
 use Rattle.std.proofs.Common.{◌≡◌, refl, sym, ap, ◌∙◌, subst, ℕ, zero, suc, ◌+◌, List, [], ◌∷◌, ◌++◌, length, take, drop, ⊎_elim}
 use Rattle.std.proofs.lemmas.Bool.Decides.{eqb_tells}
 use Rattle.std.specs.Prelude.{Option, Some, None, true, false, not, ◌&&◌, ◌%◌, ◌==◌, nat_le, replicate, slice_get, slice_set}
@@ -13,7 +14,7 @@ use Rattle.word_ops.specs.Laws.Regions.{length-CellsFade, change_region-there, c
 use Rattle.word_ops.specs.Laws.Accesses.{Puts, initialise-some, write-some, initialise_from-some, copy-some}
 use Rattle.word_ops.specs.Laws.Fading.{CellsFade-refl, CellsFade-take, CellsFade-drop, Fades-cells}
 
-CellsFade-append : (xs ys cs ds : List Cell) → CellsFade xs ys → CellsFade cs ds → CellsFade (xs ++ cs) (ys ++ ds)
+pub CellsFade-append : (xs ys cs ds : List Cell) → CellsFade xs ys → CellsFade cs ds → CellsFade (xs ++ cs) (ys ++ ds)
 CellsFade-append [] [] cs ds h k = k
 CellsFade-append [] (y ∷ ys) cs ds h k = absurd h
 CellsFade-append (x ∷ xs) [] cs ds h k = absurd h
@@ -65,7 +66,7 @@ at_place s t r h f e = go (slice_get s r) refl (subst (RegionFades (slice_get s 
     go None q k = absurd k
     go (Some g) q k = (g, q, k)
 
-set_fades : (s t : Store) (r : ℕ) (g h g' h' : Region) → Fades s t → slice_get s r ≡ Some g → slice_get t r ≡ Some h →
+pub set_fades : (s t : Store) (r : ℕ) (g h g' h' : Region) → Fades s t → slice_get s r ≡ Some g → slice_get t r ≡ Some h →
     RegionFades (Some g') (Some h') → Fades (slice_set s r g') (slice_set t r h')
 set_fades s t r g h g' h' f eg eh k q =
     ⊎_elim
@@ -78,7 +79,7 @@ set_fades s t r g h g' h' f eg eh k q =
     (λ n. subst (λ x. RegionFades x (slice_get (slice_set t r h') q)) (sym (slice_get-slice_set_other s r q g' n.1)) (subst (RegionFades (slice_get s q)) (sym (slice_get-slice_set_other t r q h' n.1)) (f q)))
     (eqb_tells q r)
 
-with_cells_fade : (g h : Region) (o : ℕ) (cs ds : List Cell) → CellsFade cs ds → RegionFades (Some g) (Some h) →
+pub with_cells_fade : (g h : Region) (o : ℕ) (cs ds : List Cell) → CellsFade cs ds → RegionFades (Some g) (Some h) →
     RegionFades (Some (with_cells g o cs)) (Some (with_cells h o ds))
 with_cells_fade g h o cs ds f k =
     let behind : CellsFade (drop (o + length cs) g.cells) (drop (o + length ds) h.cells) = subst (λ n. CellsFade (drop (o + length cs) g.cells) (drop (o + n) h.cells)) (sym (length-CellsFade cs ds f)) (CellsFade-drop (o + length cs) g.cells h.cells k.3) in

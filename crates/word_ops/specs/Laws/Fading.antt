@@ -1,4 +1,5 @@
 -- Laws of cells that are made Unset: what a load then gives, it gave before.
+-- No contract cites this file: it holds proofs.
 use Rattle.std.proofs.Common.{◌≡◌, refl, sym, ap, ◌∙◌, subst, ℕ, zero, suc, ◌+◌, ◌*◌, List, [], ◌∷◌, length, take, drop}
 use Rattle.std.proofs.lemmas.Bool.{false≢true}
 use Rattle.std.proofs.lemmas.Option.{none-some}
@@ -8,7 +9,7 @@ use Rattle.word_ops.specs.declared.operation.Width.{Width}
 use Rattle.word_ops.specs.Choice.{only_if, when}
 use Rattle.word_ops.specs.Store.{Value, Number, Pointer, Cell, Unset, Byte, Part, Region, Store}
 use Rattle.word_ops.specs.Access.{bytes_of, narrowed_to, holds_pointer, number_in, are_parts, pointer_in, decode, may_access, cells_in, cells_from, cells_at, load}
-use Rattle.word_ops.specs.Changes.{CellsFade, RegionFades, Fades, HasBytes, MayLoad}
+use Rattle.word_ops.specs.Changes.{CellsFade, RegionFades, Fades, HasBytes, HasNoByte, MayLieIn, MayLoad}
 use Rattle.word_ops.specs.Addresses.{word_of_value}
 use Rattle.word_ops.specs.Laws.Lists.{and_both, only_if-some, when-some}
 use Rattle.word_ops.specs.Laws.Regions.{length-CellsFade}
@@ -121,15 +122,31 @@ bytes_fade (c ∷ cs) (Byte b ∷ ds) n h k =
 bytes_fade (c ∷ cs) (Part j r o ∷ ds) n h k =
     let K = subst (λ c. HasBytes (c ∷ cs) n) h.0 k in bytes_fade cs ds (n / 256) h.1 K
 
+no_byte_fades : (cs ds : List Cell) → CellsFade cs ds → HasNoByte cs → HasNoByte ds
+no_byte_fades [] [] h k = tt
+no_byte_fades [] (d ∷ ds) h k = absurd h
+no_byte_fades (c ∷ cs) [] h k = absurd h
+no_byte_fades (Unset ∷ cs) (Unset ∷ ds) h k = no_byte_fades cs ds h k
+no_byte_fades (Byte b ∷ cs) (Unset ∷ ds) h k = absurd k
+no_byte_fades (Part j r o ∷ cs) (Unset ∷ ds) h k = no_byte_fades cs ds h k
+no_byte_fades (c ∷ cs) (Byte b ∷ ds) h k = absurd (subst (λ c. HasNoByte (c ∷ cs)) h.0 k)
+no_byte_fades (c ∷ cs) (Part j r o ∷ ds) h k = no_byte_fades cs ds h.1 (subst (λ c. HasNoByte (c ∷ cs)) h.0 k)
+
+MayLieIn-fades : (k : Width) (cs ds : List Cell) (v : Value) → CellsFade cs ds → MayLieIn k cs v → MayLieIn k ds v
+MayLieIn-fades k cs ds (Number n) h m = tt
+MayLieIn-fades k cs ds (Pointer r o) h m = (m.0, no_byte_fades cs ds h m.1)
+
 -- what a load may have given before, it may give after cells faded
 pub MayLoad-fades : (s t : Store) (k : Width) (cs ds : List Cell) (v : Value) → CellsFade cs ds →
     word_of_value t v ≡ word_of_value s v → MayLoad s k cs v → MayLoad t k ds v
 MayLoad-fades s t k cs ds v h e m = record {
   defined = λ u d. m.defined u (ap (decode k) (CellsFade-decode k cs ds u h d) ∙ d);
   bytes = subst (HasBytes ds) (sym e) (bytes_fade cs ds (word_of_value s v) h m.bytes);
+  kind = MayLieIn-fades k cs ds v h m.kind;
 }
 
 -- the same cells, in a store in which the value has the same word
 pub MayLoad-same : (s t : Store) (k : Width) (cs : List Cell) (v : Value) → word_of_value t v ≡ word_of_value s v →
     MayLoad s k cs v → MayLoad t k cs v
-MayLoad-same s t k cs v e m = record { defined = m.defined; bytes = subst (HasBytes cs) (sym e) m.bytes }
+MayLoad-same s t k cs v e m =
+    record { defined = m.defined; bytes = subst (HasBytes cs) (sym e) m.bytes; kind = m.kind }

@@ -1,5 +1,6 @@
 -- Laws of lists and of tests that the laws of stores use.
-use Rattle.std.proofs.Common.{◌≡◌, ◌≢◌, refl, ap, ◌∙◌, ℕ, zero, suc, ◌+◌, ◌<◌, List, [], ◌∷◌, ◌++◌, length, arith, ⊎_elim, ◌⊎◌, inl, inr}
+-- No contract cites this file: it holds proofs.
+use Rattle.std.proofs.Common.{◌≡◌, ◌≢◌, refl, sym, ap, ◌∙◌, ℕ, zero, suc, ◌+◌, ◌<◌, List, [], ◌∷◌, ◌++◌, length, arith, ⊎_elim, ◌⊎◌, inl, inr}
 use Rattle.std.proofs.lemmas.Bool.{false≢true}
 use Rattle.std.proofs.lemmas.Option.{none-some, same_Some, slice_get_within}
 use Rattle.std.specs.Prelude.{Option, Some, Bool, true, false, ◌&&◌, slice_get, slice_set}
@@ -45,6 +46,17 @@ pub slice_get-there : {A : Type 0} (xs : List A) (i : ℕ) → i < length xs →
 slice_get-there [] i lt = absurd (omega (arith, lt))
 slice_get-there (x ∷ xs) zero lt = (x, refl)
 slice_get-there (x ∷ xs) (suc i) lt = slice_get-there xs i (omega (arith, lt))
+
+pub slice_set-twice : {A : Type 0} (xs : List A) (r : ℕ) (x y : A) →
+    slice_set (slice_set xs r x) r y ≡ slice_set xs r y
+slice_set-twice [] r x y = refl
+slice_set-twice (z ∷ xs) zero x y = refl
+slice_set-twice (z ∷ xs) (suc r) x y = ap (λ l. z ∷ l) (slice_set-twice xs r x y)
+
+pub slice_set-same : {A : Type 0} (xs : List A) (r : ℕ) (x : A) → slice_get xs r ≡ Some x → slice_set xs r x ≡ xs
+slice_set-same [] r x e = refl
+slice_set-same (z ∷ xs) zero x e = ap (λ z. z ∷ xs) (same_Some x z (sym e))
+slice_set-same (z ∷ xs) (suc r) x e = ap (λ l. z ∷ l) (slice_set-same xs r x e)
 
 -- ---- a list that grows at its end
 

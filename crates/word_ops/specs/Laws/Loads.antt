@@ -1,4 +1,5 @@
 -- Laws of loads: after a store, and after cells were made Unset.
+-- No contract cites this file: it holds proofs.
 use Rattle.std.proofs.Common.{◌≡◌, ◌≢◌, refl, sym, ap, ◌∙◌, subst, ℕ, zero, suc, ◌+◌, ◌*◌, ◌≤◌, List, [], ◌∷◌, ◌++◌, length, take, drop, arith, ⊎_elim, ◌⊎◌, append_assoc, length-append, length-drop}
 use Rattle.std.proofs.lemmas.Bool.{eq-eqb, eqb-true}
 use Rattle.std.proofs.lemmas.Bool.Decides.{eqb_tells}
@@ -50,7 +51,7 @@ cells_before xs cs o u m le fits =
     ∙ take-append-le m (drop u (take o xs)) cs (omega (arith, length-drop u (take o xs), l, le))
     ∙ take_drop_take xs u m o le
 
-cells_behind : (xs cs : List Cell) (o u : ℕ) → o + length cs ≤ u → o ≤ length xs →
+pub cells_behind : (xs cs : List Cell) (o u : ℕ) → o + length cs ≤ u → o ≤ length xs →
     drop u (take o xs ++ (cs ++ drop (o + length cs) xs)) ≡ drop u xs
 cells_behind xs cs o u le fits =
     ap (drop u) (sym (append_assoc (take o xs) cs (drop (o + length cs) xs)))

@@ -1,4 +1,5 @@
 -- Laws of what a load may give: the bytes that are there, and the value where there is one.
+-- No contract cites this file: it holds proofs.
 use Rattle.std.proofs.Common.{◌≡◌, refl, sym, ap, ◌∙◌, subst, ℕ, suc, ◌+◌, ◌*◌, List, [], ◌∷◌, length, arith}
 use Rattle.std.proofs.lemmas.Bool.{false≢true}
 use Rattle.std.proofs.lemmas.Nat.{mod-pow-add}
@@ -10,7 +11,7 @@ use Rattle.word_ops.specs.declared.operation.Width.TheVariants.{U8, S8, U16, S16
 use Rattle.word_ops.specs.Choice.{when}
 use Rattle.word_ops.specs.Store.{Value, Number, Pointer, Cell, Unset, Byte, Part, Store}
 use Rattle.word_ops.specs.Access.{bytes_of, narrowed_to, converted_to, holds_pointer, number_in, are_parts, pointer_in, decode, number_cells, pointer_cells, encode, cells_at, load, write}
-use Rattle.word_ops.specs.Changes.{HasBytes, MayLoad}
+use Rattle.word_ops.specs.Changes.{HasBytes, HasNoByte, MayLieIn, MayLoad}
 use Rattle.word_ops.specs.Addresses.{word_of_value}
 use Rattle.word_ops.specs.Laws.Widths.{narrowed_to-low}
 use Rattle.word_ops.specs.Laws.Lists.{and_both, only_if-some, when-some}
@@ -38,10 +39,15 @@ encode-has_bytes s S8 (Pointer r o) cs e = absurd (none-some cs e)
 encode-has_bytes s U16 (Pointer r o) cs e = absurd (none-some cs e)
 encode-has_bytes s S16 (Pointer r o) cs e = absurd (none-some cs e)
 
+encode-lies : (k : Width) (v : Value) (cs : List Cell) → encode k v ≡ Some cs → MayLieIn k cs (converted_to k v)
+encode-lies k (Number n) cs e = tt
+encode-lies k (Pointer r o) cs e =
+    let t = only_if-some (holds_pointer k) (pointer_cells r o) cs e in (t.0, subst HasNoByte t.1 tt)
+
 pub MayLoad-encode : (s : Store) (k : Width) (v : Value) (cs : List Cell) → encode k v ≡ Some cs →
     MayLoad s k cs (converted_to k v)
 MayLoad-encode s k v cs e =
-    record { defined = λ u d. same_Some (converted_to k v) u (sym (decode-encode k v cs e) ∙ d); bytes = encode-has_bytes s k v cs e }
+    record { defined = λ u d. same_Some (converted_to k v) u (sym (decode-encode k v cs e) ∙ d); bytes = encode-has_bytes s k v cs e; kind = encode-lies k v cs e }
 
 -- what was stored is what a load of the same place and width may give
 pub MayLoad-write : (s t : Store) (k : Width) (p v : Value) (cs : List Cell) → write s k p v ≡ Some t →
@@ -103,10 +109,42 @@ pointer_has_bytes s (Byte b ∷ cs) v e = absurd (none-some v e)
 pointer_has_bytes s (Part k r o ∷ cs) v e =
     parts_have_bytes 0 r o (Part k r o ∷ cs) (word_of_value s v) (only_if-some (are_parts 0 r o (Part k r o ∷ cs)) (Pointer r o) v e).0
 
+-- the cells of a pointer have no byte
+parts_have_no_byte : (k r o : ℕ) (cs : List Cell) → are_parts k r o cs ≡ true → HasNoByte cs
+parts_have_no_byte k r o [] e = tt
+parts_have_no_byte k r o (Unset ∷ cs) e = absurd (false≢true e)
+parts_have_no_byte k r o (Byte b ∷ cs) e = absurd (false≢true e)
+parts_have_no_byte k r o (Part j q p ∷ cs) e =
+    let x = and_both (j == k) ((q == r) && ((p == o) && are_parts (k + 1) r o cs)) e in
+    let y = and_both (q == r) ((p == o) && are_parts (k + 1) r o cs) x.1 in
+    parts_have_no_byte (k + 1) r o cs (and_both (p == o) (are_parts (k + 1) r o cs) y.1).1
+
+pointer_has_no_byte : (cs : List Cell) (v : Value) → pointer_in cs ≡ Some v → HasNoByte cs
+pointer_has_no_byte [] v e = absurd (none-some v e)
+pointer_has_no_byte (Unset ∷ cs) v e = absurd (none-some v e)
+pointer_has_no_byte (Byte b ∷ cs) v e = absurd (none-some v e)
+pointer_has_no_byte (Part k r o ∷ cs) v e =
+    parts_have_no_byte 0 r o (Part k r o ∷ cs) (only_if-some (are_parts 0 r o (Part k r o ∷ cs)) (Pointer r o) v e).0
+
+lies_whole : (k : Width) (cs : List Cell) (v : Value) → holds_pointer k ≡ true → HasNoByte cs → MayLieIn k cs v
+lies_whole k cs (Number n) h b = tt
+lies_whole k cs (Pointer r o) h b = (h, b)
+
+decode-lies : (k : Width) (cs : List Cell) (v : Value) (x : Option ℕ) →
+    option_or (option_map (λ n. Number (narrowed_to k n)) x) (when (holds_pointer k) (pointer_in cs)) ≡ Some v →
+    MayLieIn k cs v
+decode-lies k cs v None e =
+    let t = when-some (holds_pointer k) (pointer_in cs) v e in lies_whole k cs v t.0 (pointer_has_no_byte cs v t.1)
+decode-lies k cs v (Some n) e = subst (MayLieIn k cs) (same_Some (Number (narrowed_to k n)) v e) tt
+
 -- the value of cells is one that a load may give
 pub MayLoad-decode : (s : Store) (k : Width) (cs : List Cell) (v : Value) → length cs ≡ bytes_of k →
     decode k cs ≡ Some v → MayLoad s k cs v
-MayLoad-decode s k cs v l e = record { defined = λ u d. same_Some v u (sym e ∙ d); bytes = go (number_in cs) refl e }
+MayLoad-decode s k cs v l e = record {
+  defined = λ u d. same_Some v u (sym e ∙ d);
+  bytes = go (number_in cs) refl e;
+  kind = decode-lies k cs v (number_in cs) e;
+}
   where
     go : (x : Option ℕ) → number_in cs ≡ x →
         option_or (option_map (λ n. Number (narrowed_to k n)) x) (when (holds_pointer k) (pointer_in cs)) ≡ Some v →

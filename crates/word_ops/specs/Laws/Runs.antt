@@ -1,4 +1,5 @@
 -- Laws of runs: what stands one after another, and runs that follow other runs.
+-- No contract cites this file: it holds proofs.
 use Rattle.std.proofs.Common.{◌≡◌, refl, sym, ap, ◌∙◌, subst, ℕ, zero, suc, ◌<◌, arith, ◌⊎◌, inl, inr, ◌∷◌}
 use Rattle.std.proofs.lemmas.Option.{none-some}
 use Rattle.std.specs.Prelude.{Option, Some, None, Bool, true, false, List, ◌-◌, ◌^◌, []}

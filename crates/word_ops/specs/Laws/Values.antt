@@ -1,4 +1,5 @@
 -- Laws of values and of operations on them: in another store, and in words.
+-- No contract cites this file: it holds proofs.
 use Rattle.std.proofs.Common.{◌≡◌, refl, sym, ap, ◌∙◌, ℕ, ◌+◌}
 use Rattle.std.proofs.lemmas.Option.{none-some}
 use Rattle.std.specs.Prelude.{Option, Some, None, Bool, true, false, not, ◌&&◌, ◌-◌, ◌%◌, ◌^◌, ◌==◌}

@@ -1,5 +1,6 @@
 -- Laws of widths: which numbers an object of a width holds.
-use Rattle.std.proofs.Common.{◌≡◌, ap, ℕ, ◌+◌, ◌*◌, ◌<◌, arith}
+-- No contract cites this file: it holds proofs.
+use Rattle.std.proofs.Common.{◌≡◌, ap, subst, ℕ, ◌+◌, ◌*◌, ◌<◌, arith}
 use Rattle.std.proofs.lemmas.Bool.Decides.{nat_tests}
 use Rattle.std.specs.Prelude.{Bool, ◌-◌, ◌%◌, ◌^◌, ◌&&◌, nat_le, if◌then◌else◌}
 use Rattle.word_ops.specs.declared.operation.Width.{Width}
@@ -48,3 +49,6 @@ narrowed_to-is S8 n h = grind (arith, nat_tests)
 narrowed_to-is U16 n h = omega (arith, h)
 narrowed_to-is S16 n h = grind (arith, nat_tests)
 narrowed_to-is Word n h = omega (arith, h)
+
+pub IsInRange-small : (k : Width) (n : ℕ) → IsInRange k n → n < 2 ^ 32
+IsInRange-small k n h = subst (λ m. m < 2 ^ 32) (narrowed_to-is k n h) (narrowed_to-small k n)

@@ -1,4 +1,5 @@
 -- The words of values: an operation on values that is defined is the operation on their words.
+-- No contract cites this file: it holds proofs.
 use Rattle.std.proofs.Common.{◌≡◌, ◌≢◌, refl, sym, ap, ◌∙◌, subst, ℕ, zero, suc, ◌+◌, ◌≤◌, ◌<◌, arith, ⊎_elim, ◌⊎◌}
 use Rattle.std.proofs.lemmas.Bool.{eqb-true}
 use Rattle.std.proofs.lemmas.Bool.Decides.{eqb_tells, nat_tests}
@@ -273,34 +274,34 @@ truth-word s (Pointer r o) b i k e =
     differs : (a : ℕ) → a ≢ 0 → true ≡ not (a == 0)
     differs a ne = grind (arith, nat_tests)
 
-number_of : (s : Store) (b : Bool) (n : ℕ) (v : Value) → only_if b (Number n) ≡ Some v →
+is_number : (s : Store) (b : Bool) (n : ℕ) (v : Value) → only_if b (Number n) ≡ Some v →
     v ≡ Number (word_of_value s v)
-number_of s b n v e = let t = only_if-some b (Number n) v e in sym t.1 ∙ ap (λ v. Number (word_of_value s v)) t.1
+is_number s b n v e = let t = only_if-some b (Number n) v e in sym t.1 ∙ ap (λ v. Number (word_of_value s v)) t.1
 
 pointer_number_number : (s : Store) (z : Option Shape) (op : Op) (r o n : ℕ) (v : Value) → op ≢ Add → op ≢ Sub →
     of_pointer_and_number z op r o n ≡ Some v → v ≡ Number (word_of_value s v)
 pointer_number_number s z Add r o n v a b e = absurd (a refl)
 pointer_number_number s z Sub r o n v a b e = absurd (b refl)
-pointer_number_number s z Eq r o n v a b e = number_of s (is_live z && (n == 0)) 0 v e
-pointer_number_number s z Ne r o n v a b e = number_of s (is_live z && (n == 0)) 1 v e
+pointer_number_number s z Eq r o n v a b e = is_number s (is_live z && (n == 0)) 0 v e
+pointer_number_number s z Ne r o n v a b e = is_number s (is_live z && (n == 0)) 1 v e
 pointer_number_number s z _ r o n v a b e = absurd (none-some v e)
 
 number_pointer_number : (s : Store) (z : Option Shape) (op : Op) (n r o : ℕ) (v : Value) → op ≢ Add →
     of_number_and_pointer z op n r o ≡ Some v → v ≡ Number (word_of_value s v)
 number_pointer_number s z Add n r o v a e = absurd (a refl)
-number_pointer_number s z Eq n r o v a e = number_of s (is_live z && (n == 0)) 0 v e
-number_pointer_number s z Ne n r o v a e = number_of s (is_live z && (n == 0)) 1 v e
+number_pointer_number s z Eq n r o v a e = is_number s (is_live z && (n == 0)) 0 v e
+number_pointer_number s z Ne n r o v a e = is_number s (is_live z && (n == 0)) 1 v e
 number_pointer_number s z _ n r o v a e = absurd (none-some v e)
 
 pointers_number : (s : Store) (y z : Option Shape) (op : Op) (r o q p : ℕ) (v : Value) →
     of_pointers y z op r o q p ≡ Some v → v ≡ Number (word_of_value s v)
-pointers_number s y z Sub r o q p v e = number_of s (is_live y && (r == q)) (machine_word Sub o p) v e
-pointers_number s y z Ltu r o q p v e = number_of s (is_live y && (r == q)) (machine_word Ltu o p) v e
-pointers_number s y z Leu r o q p v e = number_of s (is_live y && (r == q)) (machine_word Leu o p) v e
+pointers_number s y z Sub r o q p v e = is_number s (is_live y && (r == q)) (machine_word Sub o p) v e
+pointers_number s y z Ltu r o q p v e = is_number s (is_live y && (r == q)) (machine_word Ltu o p) v e
+pointers_number s y z Leu r o q p v e = is_number s (is_live y && (r == q)) (machine_word Leu o p) v e
 pointers_number s y z Eq r o q p v e =
-    number_of s (is_live y && is_live z) (number_of_truth ((r == q) && (o == p))) v e
+    is_number s (is_live y && is_live z) (number_of_truth ((r == q) && (o == p))) v e
 pointers_number s y z Ne r o q p v e =
-    number_of s (is_live y && is_live z) (number_of_truth (not ((r == q) && (o == p)))) v e
+    is_number s (is_live y && is_live z) (number_of_truth (not ((r == q) && (o == p)))) v e
 pointers_number s y z _ r o q p v e = absurd (none-some v e)
 
 -- only sums and differences give pointers

@@ -1,3 +1,5 @@
+-- Proof of the law `runs_take_what_is_there` of src/laws.rt: each clause is a lemma of
+-- specs/Laws, or computes.
 use Rattle.word_ops.specs.Laws.Outcomes.{outcome-within}
 use Rattle.c_meaning.specs.Units.{run_of_unit}
 use Rattle.c_meaning.specs.Laws.Clock.{calls_timed, run_timed}

@@ -1,3 +1,5 @@
+-- Proof of the law `runs_with_a_longer_clock` of src/laws.rt: each clause is a lemma of
+-- specs/Laws, or computes.
 use Rattle.word_ops.specs.Laws.Outcomes.{outcome-same, outcome-further}
 use Rattle.c_meaning.specs.Units.{run_of_unit}
 use Rattle.c_meaning.specs.Laws.Clock.{run_timed, longer-none}

@@ -1,3 +1,5 @@
+-- Proof of the law `runs_with_more_depth` of src/laws.rt: each clause is a lemma of
+-- specs/Laws, or computes.
 use Rattle.c_meaning.specs.Laws.Depth.{deeper-same, deeper-none, deeper-further}
 use Rattle.c_meaning.proofs.laws.runs_with_more_depth.Goals as goal
 

@@ -1,3 +1,5 @@
+-- Proof of the law `values_are_of_their_kinds` of src/laws.rt: each clause is a lemma of
+-- specs/Laws, or computes.
 use Rattle.std.proofs.Common.{sym, subst}
 use Rattle.c_meaning.specs.Units.{calls}
 use Rattle.c_meaning.specs.Laws.ValueKinds.{value-kind}

@@ -1,3 +1,5 @@
+-- Proof of the examples `calls_to_a_depth` of src/examples.rt: each clause is computed in
+-- specs/Examples or specs/Instances.
 use Rattle.core_lang.proofs.examples.calls_to_a_depth.Goals as goal
 use Rattle.core_lang.specs.Examples as example
 

@@ -1,3 +1,5 @@
+-- Proof of the examples `copying` of src/examples.rt: each clause is computed in
+-- specs/Examples or specs/Instances.
 use Rattle.core_lang.proofs.examples.copying.Goals as goal
 use Rattle.core_lang.specs.Examples as example
 

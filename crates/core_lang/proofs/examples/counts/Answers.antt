@@ -1,3 +1,5 @@
+-- Proof of the examples `counts` of src/examples.rt: each clause is computed in
+-- specs/Examples or specs/Instances.
 use Rattle.core_lang.proofs.examples.counts.Goals as goal
 use Rattle.core_lang.specs.Instances as instance
 

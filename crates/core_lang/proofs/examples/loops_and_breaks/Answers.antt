@@ -1,3 +1,5 @@
+-- Proof of the examples `loops_and_breaks` of src/examples.rt: each clause is computed in
+-- specs/Examples or specs/Instances.
 use Rattle.core_lang.proofs.examples.loops_and_breaks.Goals as goal
 use Rattle.core_lang.specs.Examples as example
 

@@ -1,3 +1,5 @@
+-- Proof of the examples `objects_and_accesses` of src/examples.rt: each clause is computed in
+-- specs/Examples or specs/Instances.
 use Rattle.core_lang.proofs.examples.objects_and_accesses.Goals as goal
 use Rattle.core_lang.specs.Examples as example
 

@@ -1,3 +1,5 @@
+-- Proof of the examples `well_formed_programs` of src/examples.rt: each clause is computed in
+-- specs/Examples or specs/Instances.
 use Rattle.core_lang.proofs.examples.well_formed_programs.Goals as goal
 use Rattle.core_lang.specs.Instances as instance
 

@@ -1,3 +1,5 @@
+-- Proof of the law `acts_in_lists` of src/laws.rt: each clause is a lemma of
+-- specs/Laws, or computes.
 use Rattle.core_lang.proofs.laws.acts_in_lists.Goals as goal
 use Rattle.core_lang.specs.Acts.{acts}
 use Rattle.core_lang.specs.Run.{calls}

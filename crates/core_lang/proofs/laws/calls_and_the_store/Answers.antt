@@ -1,3 +1,5 @@
+-- Proof of the law `calls_and_the_store` of src/laws.rt: each clause is a lemma of
+-- specs/Laws, or computes.
 use Rattle.core_lang.proofs.laws.calls_and_the_store.Goals as goal
 use Rattle.core_lang.specs.Laws.Regions.{calls-regions}
 use Rattle.core_lang.specs.Laws.Addresses.{calls-sound}

@@ -1,3 +1,5 @@
+-- Proof of the law `runs_with_a_longer_clock` of src/laws.rt: each clause is a lemma of
+-- specs/Laws, or computes.
 use Rattle.core_lang.proofs.laws.runs_with_a_longer_clock.Goals as goal
 use Rattle.core_lang.specs.Laws.Clock.{IsTimed-calls}
 use Rattle.core_lang.specs.Laws.Outcomes.{run-within, run-longer, run-further, run-undefined}

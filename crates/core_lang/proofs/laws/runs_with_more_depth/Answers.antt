@@ -1,3 +1,5 @@
+-- Proof of the law `runs_with_more_depth` of src/laws.rt: each clause is a lemma of
+-- specs/Laws, or computes.
 use Rattle.core_lang.proofs.laws.runs_with_more_depth.Goals as goal
 use Rattle.core_lang.specs.Laws.Depth.{GoesDeeper-calls}
 use Rattle.core_lang.specs.Laws.Outcomes.{run-deeper, run-deeper_further, run-undefined_deeper}

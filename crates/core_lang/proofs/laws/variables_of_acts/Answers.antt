@@ -1,3 +1,5 @@
+-- Proof of the law `variables_of_acts` of src/laws.rt: each clause is a lemma of
+-- specs/Laws, or computes.
 use Rattle.core_lang.proofs.laws.variables_of_acts.Goals as goal
 use Rattle.core_lang.specs.Laws.Variables.{argument-get, argument-past, acts-unassigned}
 

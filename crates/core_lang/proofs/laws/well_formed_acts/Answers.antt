@@ -1,3 +1,5 @@
+-- Proof of the law `well_formed_acts` of src/laws.rt: each clause is a lemma of
+-- specs/Laws, or computes.
 use Rattle.core_lang.proofs.laws.well_formed_acts.Goals as goal
 use Rattle.core_lang.specs.Laws.Counts.{count-append}
 use Rattle.core_lang.specs.Laws.Reads.{body-same}

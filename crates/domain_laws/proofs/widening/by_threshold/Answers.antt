@@ -1,3 +1,5 @@
+-- Proof of `by_threshold` of src/widening.rt: the goals that the check leaves open,
+-- by lemmas of proofs/ and of the crates below.
 use Rattle.std.proofs.Common.{rules}
 use Rattle.term_form.proofs.Widths.{IsHull-first, IsHull-second}
 use Rattle.domain_laws.proofs.widening.by_threshold.Goals as goal

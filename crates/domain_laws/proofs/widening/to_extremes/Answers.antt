@@ -1,3 +1,5 @@
+-- Proof of `to_extremes` of src/widening.rt: the goals that the check leaves open,
+-- by lemmas of proofs/ and of the crates below.
 use Rattle.std.proofs.Common.{rules}
 use Rattle.domain_laws.proofs.widening.to_extremes.Goals as goal
 

@@ -1,3 +1,5 @@
+-- Proof of `with_rest_or_none` of src/widening.rt: the goals that the check leaves open,
+-- by lemmas of proofs/ and of the crates below.
 use Rattle.term_form.proofs.Widths.{IsNarrower-refl}
 use Rattle.domain_laws.proofs.Bounds.{refines_any}
 use Rattle.domain_laws.proofs.widening.with_rest_or_none.Goals as goal

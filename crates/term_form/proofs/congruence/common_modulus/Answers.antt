@@ -1,3 +1,5 @@
+-- Proof of `common_modulus` of src/congruence.rt: the goals that the check leaves open,
+-- by lemmas of proofs/ and of the crates below.
 use Rattle.std.proofs.Common.{arith}
 use Rattle.term_form.specs.Congruence.{IsGreatestDivisor, rests_apart}
 use Rattle.term_form.proofs.Congruences.{greatest_of_three, greatest_fits}

@@ -1,3 +1,5 @@
+-- Proof of `divides` of src/congruence.rt: the goals that the check leaves open,
+-- by lemmas of proofs/ and of the crates below.
 use Rattle.term_form.proofs.Congruences.{divides_tested, zero_tested}
 use Rattle.term_form.proofs.congruence.divides.Goals as goal
 

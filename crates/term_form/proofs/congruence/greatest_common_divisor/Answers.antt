@@ -1,3 +1,5 @@
+-- Proof of `greatest_common_divisor` of src/congruence.rt: the goals that the check leaves open,
+-- by lemmas of proofs/ and of the crates below.
 use Rattle.std.proofs.lemmas.Nat.Gcd.{IsGcd-from_mod, IsGcd-from_zero}
 use Rattle.term_form.proofs.congruence.greatest_common_divisor.Goals as goal
 

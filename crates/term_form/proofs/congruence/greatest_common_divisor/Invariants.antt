@@ -1,3 +1,5 @@
+-- Proof of `greatest_common_divisor` of src/congruence.rt: what its loop keeps, and the measure that falls,
+-- by lemmas of proofs/ and of the crates below.
 use Rattle.std.proofs.Common.{ℕ}
 use Rattle.std.specs.Int.{IsGcd}
 use Rattle.term_form.proofs.congruence.greatest_common_divisor.Given as goal

@@ -1,3 +1,5 @@
+-- Proof of `has_rest` of src/congruence.rt: the goals that the check leaves open,
+-- by lemmas of proofs/ and of the crates below.
 use Rattle.term_form.specs.Interval.{signed}
 use Rattle.term_form.specs.Congruence.{rest_number}
 use Rattle.term_form.proofs.Congruences.{is_congruent}

@@ -1,3 +1,5 @@
+-- Proof of `least_rest` of src/congruence.rt: the goals that the check leaves open,
+-- by lemmas of proofs/ and of the crates below.
 use Rattle.term_form.specs.Congruence.{rest_number}
 use Rattle.term_form.proofs.Congruences.{rest_kept, rest_reduced}
 use Rattle.term_form.proofs.congruence.least_rest.Goals as goal

@@ -1,3 +1,5 @@
+-- Proof of `hull` of src/facts.rt: the goals that the check leaves open,
+-- by lemmas of proofs/ and of the crates below.
 use Rattle.std.proofs.Common.{rules}
 use Rattle.term_form.proofs.Parts.{lies_first, lies_second, meets_either}
 use Rattle.term_form.proofs.facts.hull.Goals as goal

@@ -1,3 +1,5 @@
+-- Proof of `meet` of src/facts.rt: the goals that the check leaves open,
+-- by lemmas of proofs/ and of the crates below.
 use Rattle.std.proofs.Common.{rules}
 use Rattle.term_form.proofs.Parts.{meets_both}
 use Rattle.term_form.proofs.facts.meet.Goals as goal

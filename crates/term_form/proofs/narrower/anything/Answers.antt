@@ -1,3 +1,5 @@
+-- Proof of `anything` of src/narrower.rt: the goals that the check leaves open,
+-- by lemmas of proofs/ and of the crates below.
 use Rattle.term_form.proofs.Widths.{any_meets}
 use Rattle.term_form.proofs.narrower.anything.Goals as goal
 

@@ -1,3 +1,5 @@
+-- Proof of the law `closed_walks` of src/walks.rt: each clause is a lemma of
+-- specs/Laws, or computes.
 use Rattle.std.proofs.Common.{refl}
 use Rattle.term_form.proofs.walks.closed_walks.Goals as goal
 

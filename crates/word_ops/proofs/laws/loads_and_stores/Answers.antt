@@ -1,3 +1,5 @@
+-- Proof of the law `loads_and_stores` of src/laws.rt: each clause is a lemma of
+-- specs/Laws, or computes.
 use Rattle.word_ops.proofs.laws.loads_and_stores.Goals as goal
 use Rattle.word_ops.specs.Laws.Accesses.{write-shapes}
 use Rattle.word_ops.specs.Laws.Loads.{load-write, write-elsewhere}

@@ -1,3 +1,5 @@
+-- Proof of the law `operations_on_values` of src/laws.rt: each clause is a lemma of
+-- specs/Laws, or computes.
 use Rattle.word_ops.proofs.laws.operations_on_values.Goals as goal
 use Rattle.word_ops.specs.Laws.Values.{operation-same}
 use Rattle.word_ops.specs.Laws.Words.{operation-word, operation-in, truth-word}

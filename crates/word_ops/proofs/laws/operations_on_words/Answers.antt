@@ -1,3 +1,5 @@
+-- Proof of the law `operations_on_words` of src/laws.rt: each clause is a lemma of
+-- specs/Laws, or computes.
 use Rattle.word_ops.proofs.laws.operations_on_words.Goals as goal
 use Rattle.word_ops.specs.Laws.Operations.{machine_word-small, adds_exact, subs_exact, muls_exact, divs_exact, rems_exact, shls_exact, shrs_exact}
 

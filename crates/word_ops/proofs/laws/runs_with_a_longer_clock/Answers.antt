@@ -1,3 +1,5 @@
+-- Proof of the law `runs_with_a_longer_clock` of src/laws.rt: each clause is a lemma of
+-- specs/Laws, or computes.
 use Rattle.word_ops.proofs.laws.runs_with_a_longer_clock.Goals as goal
 use Rattle.word_ops.specs.Laws.Outcomes.{outcome-within, outcome-same, outcome-further}
 

@@ -1,3 +1,5 @@
+-- Proof of `find` of src/table.rt: the goals that the check leaves open,
+-- by lemmas of proofs/ and of the crates below.
 use Rattle.term_domain.proofs.Lookups.{found_in, only_in, none_in}
 use Rattle.term_domain.proofs.table.Table.find.Goals as goal
 

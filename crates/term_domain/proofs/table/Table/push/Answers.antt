@@ -1,3 +1,5 @@
+-- Proof of `push` of src/table.rt: the goals that the check leaves open,
+-- by lemmas of proofs/ and of the crates below.
 use Rattle.std.proofs.Common.{rules, ◌≡◌, ◌∷◌, [], ◌++◌, ◌∙◌, ap}
 use Rattle.term_domain.specs.Rows.{Rows}
 use Rattle.term_domain.proofs.Lookups.{pushed_in, table_in}

@@ -1,3 +1,5 @@
+-- Proof of `clobber` of src/terms.rt: the goals that the check leaves open,
+-- by lemmas of proofs/ and of the crates below.
 use Rattle.std.proofs.Common.{refl}
 use Rattle.term_domain.specs.Laws.{stands-store}
 use Rattle.term_domain.proofs.Kept.{grown_extends, grown_same}

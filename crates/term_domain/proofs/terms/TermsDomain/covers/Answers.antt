@@ -1,3 +1,5 @@
+-- Proof of `covers` of src/terms.rt: the goals that the check leaves open,
+-- by lemmas of proofs/ and of the crates below.
 use Rattle.std.proofs.Common.{sym, subst}
 use Rattle.term_form.specs.declared.facts.Facts.{Facts}
 use Rattle.term_form.specs.Narrower.{IsNarrower}

@@ -1,3 +1,5 @@
+-- Proof of `leave` of src/terms.rt: the goals that the check leaves open,
+-- by lemmas of proofs/ and of the crates below.
 use Rattle.std.proofs.Common.{sym, subst}
 use Rattle.term_domain.specs.Rows.{Rows, TableStands}
 use Rattle.term_domain.specs.Laws.{stands-take}

@@ -1,3 +1,5 @@
+-- Proof of `load` of src/terms.rt: the goals that the check leaves open,
+-- by lemmas of proofs/ and of the crates below.
 use Rattle.std.proofs.lemmas.Result.{on_err_weaker, IfOk-weaker}
 use Rattle.term_domain.proofs.Kept.{grown_extends, grown_pushed, same_state, on_ok}
 use Rattle.term_domain.proofs.Given.{pushed_node, load_given}
@@ -15,5 +17,5 @@ returns-clause-node c = IfOk-weaker c.push.result _ _ (λ t n fresh. pushed_node
 pub returns-clause-value : goal.returns-clause-value
 returns-clause-value c =
     IfOk-weaker c.push.result _ _
-    (λ t n. load_given c.args.self.now.table c.push.new.self c.args.width c.args.pointer c.anything.result t.0 n c.requires c.anything.ensures.is)
+    (λ t n. load_given c.args.self.now.table c.push.new.self c.args.width c.args.pointer c.width_facts.result t.0 n c.requires c.width_facts.ensures)
     c.push.ensures.ok

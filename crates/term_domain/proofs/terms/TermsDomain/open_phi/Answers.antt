@@ -1,3 +1,5 @@
+-- Proof of `open_phi` of src/terms.rt: the goals that the check leaves open,
+-- by lemmas of proofs/ and of the crates below.
 use Rattle.std.proofs.Common.{sym, subst}
 use Rattle.std.proofs.lemmas.Result.{on_err_weaker, IfOk-weaker}
 use Rattle.word_ops.specs.Addresses.{word_of_value, IsValueIn}

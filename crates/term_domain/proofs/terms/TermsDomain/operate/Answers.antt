@@ -1,3 +1,5 @@
+-- Proof of `operate` of src/terms.rt: the goals that the check leaves open,
+-- by lemmas of proofs/ and of the crates below.
 use Rattle.std.proofs.Common.{◌≡◌, sym, ◌∙◌, refl, subst, Some}
 use Rattle.std.proofs.lemmas.Result.{on_err_weaker, IfOk-weaker}
 use Rattle.word_ops.specs.Values.{value_of_operation}

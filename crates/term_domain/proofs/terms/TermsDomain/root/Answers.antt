@@ -1,3 +1,6 @@
+-- Proof of `root` of src/terms.rt: the goals that the check leaves open,
+-- by lemmas of proofs/ and of the crates below.
+use Rattle.std.proofs.Common.{arith}
 use Rattle.std.proofs.lemmas.Result.{on_err_weaker, IfOk-weaker}
 use Rattle.term_form.specs.declared.term.Node.TheVariants.{Root}
 use Rattle.domain_laws.specs.World.{IsOfRoot}
@@ -34,6 +37,7 @@ returns-in-Param c = record {
   adds = on_ok c.push.result (λ t n. grown_adds c.args.self.now _ (grown_pushed _ _ _ _ n.pushed)) c.push.ensures.ok;
   brings = IfOk-weaker c.push.result _ _ (λ t n. brings_new c.args.self.now _ _ _ t.0 n) c.push.ensures.ok;
   node = IfOk-weaker c.push.result _ _ (λ t n fresh. pushed_node _ _ _ _ t.0 n) c.push.ensures.ok;
+  fresh = IfOk-weaker c.push.result _ _ (λ t n other lt. let e = n.number in omega (arith, e, lt)) c.push.ensures.ok;
   object = IfOk-weaker c.push.result _ _ (λ t n object. pushed_node _ _ _ _ t.0 n) c.push.ensures.ok;
   alone = IfOk-weaker c.push.result _ _ (λ t n fresh object. absurd (no_object c.args.root c.in-Param.is object)) c.push.ensures.ok;
   value = IfOk-weaker c.push.result _ _

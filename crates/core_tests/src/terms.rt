@@ -1,6 +1,11 @@
-use super::*;
+//! The domain of terms: which answers are shared, marks, and what is known of terms.
+use domain_laws::{Chance, Domain, Widening};
+use std::alloc::Global;
 use std::process::Abort;
 use std::test::Fail;
+use term_domain::Terms;
+use term_form::{Facts, Node, Root, Term, anything, only};
+use word_ops::{Memory, Op, Width};
 
 #[test]
 fn equal_sums_are_one_term(rt: HostRuntime) -> Result<(), Fail> {

@@ -1,4 +1,5 @@
-use super::*;
+//! Facts: which words they hold of, and their hulls and meets.
+use term_form::{Facts, holds, hull, meet};
 
 /// Facts of which nothing is known.
 const ANY: Facts = Facts {

@@ -1,5 +1,5 @@
-use super::*;
-use crate::facts::holds;
+//! Facts that are narrower than others, and the two ends of that order.
+use term_form::{Facts, anything, holds, is_narrower, only};
 
 #[test]
 fn narrower_part_by_part(rt: HostRuntime) {

@@ -1,4 +1,5 @@
-use super::*;
+//! Core code: a program is built and read, and each act is built.
+use core_lang::{Atom, Core, CoreFunction, Part, PointerOp, Program, Start, StaticObject};
 use std::alloc::{AllocError, Global};
 use std::test::Fail;
 use word_ops::{Items, Op, Width};

@@ -1,5 +1,6 @@
-use super::*;
-use term_form::only;
+//! Widening: bounds move to thresholds or go to their ends, bits and congruences take the hull or go.
+use domain_laws::{Widening, widened};
+use term_form::{Facts, anything, only};
 
 /// Facts that tell the signed interval alone.
 fn signed(low: i32, high: i32) -> Facts {

@@ -1,9 +1,9 @@
--- What a run does with more depth (a notion of this project).
+-- What a run does with more depth, in which calls may nest (a notion of this project).
 use Rattle.std.specs.Prelude.{◌≡◌}
 use Rattle.word_ops.specs.Run.{Outside, Exit, Deep, More, Run, Gives, Ends, Undefined}
 use Rattle.word_ops.specs.Clock.{RunReaches, IsTimed}
 
--- the second run is the first one with more depth: it does the same, and goes on where the first was too deep
+-- the second run is the first one with more depth: it does the same, and goes on from there where the first was too deep
 abbrev pub GoesDeeper : {S A : Type 0} → Run S A → Run S A → Type 0
 GoesDeeper (Gives s u a) r = r ≡ Gives s u a
 GoesDeeper (Ends More u) r = r ≡ Ends More u
