@@ -1,3 +1,4 @@
+//! The form in bytes that were written out by hand, and the offsets at which wrong ones are wrong.
 use super::*;
 use std::alloc::{AllocError, Global};
 use std::test::Fail;
