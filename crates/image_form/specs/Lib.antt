@@ -9,3 +9,4 @@ pub mod Contents
 pub mod Checked
 pub mod Header
 pub mod Laws
+pub mod Examples

@@ -23,12 +23,14 @@ mod codes;
 mod contents;
 mod fault;
 mod image;
+mod laws;
 mod reading;
 mod words;
 mod writing;
 
 pub use fault::ImageFault;
 pub use image::Image;
+pub use laws::examples;
 pub use reading::read;
 pub use writing::write;
 

@@ -4,7 +4,9 @@ ghost use Rattle.std.specs.Prelude.{◌≡◌, ◌≢◌, ℕ, ◌+◌, ◌-◌,
 ghost use Rattle.std.specs.Int.{w32, cast_unsigned};
 ghost use Rattle.word_ops.specs.declared.operation.Op.{Op};
 ghost use Rattle.word_ops.specs.declared.operation.Width.{Width};
-ghost use Rattle.word_ops.specs.Access.{narrowed_to};
+ghost use Rattle.word_ops.specs.Store.{Cell, Store, Value};
+ghost use Rattle.word_ops.specs.Access.{bytes_of, decode, encode, narrowed_to};
+ghost use Rattle.word_ops.specs.Addresses.{HasCells, word_of_value};
 ghost use Rattle.word_ops.specs.Operation.{machine_word};
 ghost use Rattle.image_form.specs.declared.image.Image.{Image as ImageValue};
 ghost use Rattle.image_form.specs.Limits.{IsImage, IsWithinLimits};
@@ -12,12 +14,13 @@ ghost use Rattle.rv_table.specs.declared.row.Row.{Row};
 ghost use Rattle.rv_table.specs.declared.instruction.Instr.{Instr};
 ghost use Rattle.rv_table.specs.Instruction.{Valid, encode_of};
 ghost use Rattle.rv_machine.specs.declared.answer.End.{End};
-ghost use Rattle.rv_machine.specs.State.{State, Loaded, register_of};
+ghost use Rattle.rv_machine.specs.State.{State, Loaded, register_in, register_of, with_register};
 ghost use Rattle.rv_machine.specs.Bytes.{byte_in, half_in, word_in, signed_byte_in, signed_half_in, with_byte, with_half, with_word, number_in, with_number};
 ghost use Rattle.rv_machine.specs.Effect.{Goes, Puts, Traps, effect, writes};
 ghost use Rattle.rv_machine.specs.Step.{fetched, instruction_at, performs, step_of};
 ghost use Rattle.rv_machine.specs.Start.{start};
 ghost use Rattle.rv_machine.specs.Reading.{word_at};
+ghost use Rattle.rv_machine.specs.Pause.{Moves};
 ghost use Rattle.rv_machine.specs.Run.{World, Run, Steps};
 ghost use Rattle.rv_machine.specs.After.{Moment, acts, after, next};
 ghost use Rattle.rv_machine.specs.Operations.{operation_of_immediate, operation_of_registers};
@@ -31,12 +34,14 @@ use crate::answer::Stepped;
 /// Laws of a machine after a number of steps on input that is told.
 ///
 /// No step leaves it as it was, and m + n steps are m and then n; one step is that of its state where it
-/// goes on, and none where it has ended.
+/// goes on, and none where it has ended; steps that go on by themselves lead to their last state.
 pub fn after_laws()
     ensures zero { (text : List ℕ) → (w : Moment) → after text 0 w ≡ w }
     ensures add { (text : List ℕ) → (m n : ℕ) → (w : Moment) → after text (m + n) w ≡ after text n (after text m w) }
     ensures one { (text : List ℕ) → (w : Moment) → after text 1 w ≡ next text w }
     ensures going { (text : List ℕ) → (w : Moment) → w.answer ≡ Stepped.Going → next text w ≡ acts w (step_of text w.state) }
+    ensures moves { (text : List ℕ) → (n : ℕ) → (w : Moment) → (m : State) → w.answer ≡ Stepped.Going →
+        Moves text n w.state m → after text n w ≡ record w { state = m } }
     ensures ended { (text : List ℕ) → (n : ℕ) → (w : Moment) → w.answer ≢ Stepped.Going → after text n w ≡ w }
 {}
 
@@ -97,6 +102,27 @@ pub fn bytes_laws()
         × (half_in bytes k ≡ narrowed_to Width.U16 (number_in 2 bytes k))
         × (signed_half_in bytes k ≡ narrowed_to Width.S16 (number_in 2 bytes k))
         × (word_in bytes k ≡ narrowed_to Width.Word (number_in 4 bytes k)) }
+{}
+
+/// Registers: what was written is read, but for x0, which reads 0, and each other register is as it was.
+pub fn register_laws()
+    ensures read { (registers : List ℕ) → (n word : ℕ) → n ≢ 0 → n < length registers →
+        register_in (with_register registers n word) n ≡ word }
+    ensures other { (registers : List ℕ) → (n k word : ℕ) → k ≢ n →
+        register_in (with_register registers n word) k ≡ register_in registers k }
+    ensures zero { (registers : List ℕ) → (word : ℕ) →
+        (register_in registers 0 ≡ 0) × (with_register registers 0 word ≡ registers) }
+{}
+
+/// Cells as bytes of memory: where the word of a value was put, a machine has the bytes of its cells, and where it has
+/// them, a load gives the word of the value.
+pub fn cell_laws()
+    ensures stored { (s : Store) → (w : Width) → (v : Value) → (cells : List Cell) → (bytes : List ℕ) → (k : ℕ) →
+        encode w v ≡ Some cells → k + bytes_of w ≤ length bytes →
+        HasCells s cells (number_in (bytes_of w) (with_number (bytes_of w) (word_of_value s v) bytes k) k) }
+    ensures loaded { (s : Store) → (w : Width) → (v : Value) → (cells : List Cell) → (bytes : List ℕ) → (k : ℕ) →
+        length cells ≡ bytes_of w → word_of_value s v < 2 ^ 32 → HasCells s cells (number_in (bytes_of w) bytes k) →
+        decode w cells ≡ Some v → narrowed_to w (number_in (bytes_of w) bytes k) ≡ word_of_value s v }
 {}
 
 /// Rows that compute: one that is an operation on words writes the word of that operation, of its two registers or of a

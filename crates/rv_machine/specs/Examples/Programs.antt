@@ -33,7 +33,7 @@ outcome answer' out' = record { answer = answer'; out = out' }
 abbrev pub outcome_after : ℕ → Program → Outcome
 outcome_after n p = let w : Moment = machine_after (image_of p) p.input n in outcome w.answer w.out
 
--- each ends within 20 steps
+-- each ends within 60 steps
 abbrev pub programs : List Program
 programs =
     -- exit takes the status modulo 256
@@ -127,7 +127,7 @@ programs =
     ∷ []
 
 abbrev pub ProgramsEnd : Type 0
-ProgramsEnd = map (outcome_after 20) programs ≡ map (λ (p : Program). outcome p.ends p.output) programs
+ProgramsEnd = map (outcome_after 60) programs ≡ map (λ (p : Program). outcome p.ends p.output) programs
 
 pub programs_end : ProgramsEnd
 unfolding row_of step_of next after

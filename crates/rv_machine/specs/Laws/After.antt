@@ -5,6 +5,8 @@ use Rattle.std.proofs.Math.Nat.{add-suc}
 use Rattle.rv_machine.specs.declared.answer.Stepped.{Stepped}
 use Rattle.rv_machine.specs.declared.answer.Stepped.TheVariants.{Going, Exit, Deep, Trap, ReadFault, WriteFault}
 use Rattle.rv_machine.specs.Effect.{Action, Goes, Gets, Puts, Exits, Deepens, Traps}
+use Rattle.rv_machine.specs.State.{State}
+use Rattle.rv_machine.specs.Pause.{Moves}
 use Rattle.rv_machine.specs.Step.{step_of}
 use Rattle.rv_machine.specs.After.{Moment, gets, acts, goes_on, next, after}
 
@@ -12,6 +14,10 @@ use Rattle.rv_machine.specs.After.{Moment, gets, acts, goes_on, next, after}
 pub next-going : (text : List ℕ) (w : Moment) → w.answer ≡ Going → next text w ≡ acts w (step_of text w.state)
 unfolding next
 next-going text w e = ap (goes_on text w) e
+
+-- what the action of its state says
+pub next-acts : (text : List ℕ) (w : Moment) (action : Action) → w.answer ≡ Going → step_of text w.state ≡ action → next text w ≡ acts w action
+next-acts text w action e a = next-going text w e ∙ ap (acts w) a
 
 stays : (text : List ℕ) (w : Moment) (answer : Stepped) → answer ≢ Going → goes_on text w answer ≡ w
 stays text w Going h = absurd (h refl)
@@ -34,6 +40,12 @@ after-ended text (suc n) w h = ap (next text) (after-ended text n w h) ∙ next-
 pub after-zero : (text : List ℕ) (w : Moment) → after text 0 w ≡ w
 unfolding after
 after-zero text w = refl
+
+-- steps that go on by themselves lead to their last state
+pub after-moves : (text : List ℕ) (n : ℕ) (w : Moment) (m : State) → w.answer ≡ Going → Moves text n w.state m → after text n w ≡ record w { state = m }
+unfolding after
+after-moves text zero w m e h = ap (λ (s : State). record w { state = s }) (sym h)
+after-moves text (suc n) w m e (u, before, last) = ap (next text) (after-moves text n w u e before) ∙ next-acts text (record w { state = u }) (Goes m) e last
 
 -- n steps and then one more
 pub after-suc : (text : List ℕ) (n : ℕ) (w : Moment) → after text (suc n) w ≡ next text (after text n w)

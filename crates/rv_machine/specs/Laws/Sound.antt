@@ -40,18 +40,12 @@ use Rattle.rv_machine.specs.Start.{start, up_to_eight}
 use Rattle.rv_machine.specs.Run.{World, answered, byte_or_end, Acts, Steps, Went, Ended, Run}
 use Rattle.rv_machine.specs.After.{Moment, gets, acts, goes_on, next, after}
 use Rattle.rv_machine.specs.Sound.{AreWords, AreBytes, IsSound, LiesAs}
-use Rattle.rv_machine.specs.Laws.Bytes.{below-at, byte_in-narrowed, half_in-narrowed, word_in-narrowed, signed_byte_in-narrowed, signed_half_in-narrowed, with_half-number, with_word-number, length-with_number, AreBytes-with_number}
+use Rattle.rv_machine.specs.Laws.Bytes.{byte_in-narrowed, half_in-narrowed, word_in-narrowed, signed_byte_in-narrowed, signed_half_in-narrowed, with_half-number, with_word-number, length-with_number, AreBytes-with_number}
+use Rattle.rv_machine.specs.Laws.Registers.{register_in-word, length-with_register}
 use Rattle.rv_machine.specs.Laws.Arithmetic.{less-word, less_unsigned-word, shifted_right_signed-word, quotient-word, remainder-word, high_product-small, high_product_mixed-small, high_product_unsigned-small}
 use Rattle.rv_machine.specs.Laws.Instructions.{step_of-instruction, instruction_at-valid}
 
 -- ---- registers
-
-pub register_in-word : (registers : List ℕ) (n : ℕ) → AreWords registers → register_in registers n < 2 ^ 32
-register_in-word registers n h = pick (n == 0)
-  where
-    pick : (t : Bool) → (if t then 0 else slice_index registers n) < 2 ^ 32
-    pick true = omega arith
-    pick false = below-at (2 ^ 32) registers n (omega arith) h
 
 with_register_words : (registers : List ℕ) (n word : ℕ) → AreWords registers → word < 2 ^ 32 → AreWords (with_register registers n word)
 with_register_words registers n word h b = pick (n == 0)
@@ -59,13 +53,6 @@ with_register_words registers n word h b = pick (n == 0)
     pick : (t : Bool) → AreWords (if t then registers else set registers n word)
     pick true = h
     pick false = All-set (λ w. w < 2 ^ 32) registers n word b h
-
-with_register_count : (registers : List ℕ) (n word : ℕ) → length (with_register registers n word) ≡ length registers
-with_register_count registers n word = pick (n == 0)
-  where
-    pick : (t : Bool) → length (if t then registers else set registers n word) ≡ length registers
-    pick true = refl
-    pick false = length-set registers n word
 
 -- ---- what an action leaves
 
@@ -101,7 +88,7 @@ moves_keeps m to s b t = went_to m m.registers to m.memory s.count s.registers b
 -- a register is written, and on to an address
 links_keeps : (m : State) (rd word to : ℕ) → IsSound m → word < 2 ^ 32 → to < 2 ^ 32 → to % 4 ≡ 0 → Keeps m (Goes (record { registers = with_register m.registers rd word; pc = to; base = m.base; memory = m.memory }))
 links_keeps m rd word to s h b t =
-    went_to m (with_register m.registers rd word) to m.memory (with_register_count m.registers rd word ∙ s.count) (with_register_words m.registers rd word s.registers h) b t refl s.memory
+    went_to m (with_register m.registers rd word) to m.memory (length-with_register m.registers rd word ∙ s.count) (with_register_words m.registers rd word s.registers h) b t refl s.memory
 
 writes_keeps : (m : State) (rd word : ℕ) → IsSound m → word < 2 ^ 32 → Keeps m (writes m rd word)
 writes_keeps m rd word s h = links_keeps m rd word (following m.pc) s h (omega arith) (following_step m.pc s.pc_step)
