@@ -21,16 +21,16 @@
 mod check;
 mod codes;
 mod contents;
+mod examples;
 mod fault;
 mod image;
-mod laws;
 mod reading;
 mod words;
 mod writing;
 
+pub use examples::wrong_offsets;
 pub use fault::ImageFault;
 pub use image::Image;
-pub use laws::examples;
 pub use reading::read;
 pub use writing::write;
 

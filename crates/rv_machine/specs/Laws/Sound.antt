@@ -316,7 +316,7 @@ Run-sound text n w v ended.WriteFault h s e = ended_kept text n w v WriteFault h
 
 pub start-sound : (image : Image) → IsImage image → IsWithinLimits image → IsSound (start image)
 start-sound image i l = record {
-  count = length-replicate 32 0;
+  count = length-replicate {A = ℕ} 32 0;
   registers = All-replicate (λ w. w < 2 ^ 32) 32 0 (omega arith);
   pc = i.entry;
   pc_step = l.entry_step;

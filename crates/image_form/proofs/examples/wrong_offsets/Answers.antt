@@ -1,6 +1,6 @@
 -- The examples, each by computation.
 use Rattle.image_form.specs.Examples.{early_ends, files_wrong, magic_wrong, records_wrong_at}
-use Rattle.image_form.proofs.laws.examples.Goals as goal
+use Rattle.image_form.proofs.examples.wrong_offsets.Goals as goal
 
 pub returns-clause-files : goal.returns-clause-files
 returns-clause-files c = files_wrong
