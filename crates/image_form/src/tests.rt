@@ -309,5 +309,8 @@ fn records_read_and_written(rt: HostRuntime) -> Result<(), Fail> {
         assert_eq!(rt; (image.stack, image.entry), (16, 0x1_0000));
         assert_eq!(rt; write(rt.alloc(), &image)?, bytes);
     }
+    // the greatest number of records, of which none is there
+    let none = file(rt.alloc(), &[1, 0, 0, 0x1_0000, 0xffff_ffff, 0])?;
+    assert!(rt; matches!(read(rt.alloc(), &none), Err(ImageFault::BadImage(28))));
     Ok(())
 }
