@@ -1,3 +1,4 @@
+-- The definitions that contracts of this crate cite.
 pub mod Outside
 pub mod Calls
 pub mod Table

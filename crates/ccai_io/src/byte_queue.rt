@@ -1,3 +1,4 @@
+//! Bytes that are taken from the front one by one: what the sources in memory are made of.
 ghost use Rattle.std.specs.Prelude.{◌≡◌, drop, slice_get};
 
 use std::marker::Model;

@@ -1,3 +1,5 @@
+//! Calls that are numbered from 1, and the lists of those that are to fail, as the types in memory
+//! keep them.
 ghost use Rattle.std.specs.Prelude.{◌≡◌, ◌+◌, ◌==◌};
 ghost use Rattle.ccai_io.specs.Calls.{is_listed as is_listed_after};
 ghost use Rattle.ccai_io.specs.MemSink.{planned};

@@ -1,3 +1,4 @@
+//! Reading by chunks through a buffer: what the adapters over files and standard input share.
 ghost use Rattle.std.specs.Prelude.{◌≤◌, IfOk};
 
 use crate::repeat::repeated;

@@ -1,3 +1,5 @@
+//! The adapter over the files of the system. It tells no content, and counts what is not found and what
+//! fails.
 ghost use Rattle.std.specs.Prelude.{◌≡◌, ◌^◌, ◌≤◌, IfErr, IfOk, MatchResult, OnOk, length};
 
 use crate::chunk_reader::ChunkReader;

@@ -1,3 +1,4 @@
+//! The files of the shelves in memory: a list that contracts see as a map from names to bytes.
 ghost use Rattle.std.specs.Prelude.{◌≡◌, ◌<◌, HoldsAt, IfNone, IfSome, OnErr, OnOk, length, take};
 ghost use Rattle.std.specs.FinMap.{empty, insert};
 ghost use Rattle.std.specs.Option.{option_copied};

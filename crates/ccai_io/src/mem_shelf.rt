@@ -1,3 +1,5 @@
+//! A shelf in memory of which chosen calls fail, for tests of the crates above and for proofs about
+//! faults.
 ghost use Rattle.std.specs.Prelude.{◌≡◌, ◌∷◌, ◌++◌, [], IfErr, IfOk, MatchResult, OnErr, OnOk};
 ghost use Rattle.std.specs.FinMap.{insert};
 

@@ -1,3 +1,4 @@
+//! A sink in memory with a room of its own, of which chosen calls fail.
 ghost use Rattle.std.specs.Prelude.{◌≡◌, ◌∷◌, ◌++◌, [], ◌≤◌, IfOk, OnErr, OnOk};
 
 use crate::calls::planned_at;

@@ -1,3 +1,4 @@
+//! A source in memory of which chosen calls fail.
 ghost use Rattle.std.specs.Prelude.{◌≡◌, ◌∷◌, ◌++◌, [], IfOk, OnErr, OnOk};
 
 use crate::byte_queue::ByteQueue;

@@ -1,15 +1,21 @@
+//! The outside as the other crates see it: the traits of a shelf, a source and a sink, with the counts of
+//! their faults, and the errors of their calls.
 ghost use Rattle.std.specs.Prelude.{◌≡◌, ℕ, List, Option, IfErr, IfOk, OnErr, OnOk};
 
 use std::alloc::Global;
+use thiserror::Error;
 
 /// Why a file was not taken.
-#[derive(Clone, Copy, Debug, PartialEq, Eq)]
+#[derive(Clone, Copy, Debug, PartialEq, Eq, Error)]
 pub enum ShelfFault {
     /// There is no file of that name.
+    #[error("no such file")]
     Missing,
     /// The file could not be read.
+    #[error("file could not be read")]
     Failed,
     /// Memory for its bytes is wanting.
+    #[error("out of memory")]
     Memory,
 }
 

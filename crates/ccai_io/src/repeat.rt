@@ -1,3 +1,4 @@
+//! Calls on the system that a signal interrupts are made again, so often at most.
 use std::io;
 use std::io::ErrorKind;
 

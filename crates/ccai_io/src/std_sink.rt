@@ -1,3 +1,4 @@
+//! The adapter over a writer, as standard output and standard error. It tells no content.
 ghost use Rattle.std.specs.Prelude.{◌≡◌, ◌≤◌, IfOk, length};
 
 use crate::outside::{Failed, Sink};

@@ -1,3 +1,4 @@
+//! The adapter over a reader, as standard input. It tells no content.
 ghost use Rattle.std.specs.Prelude.{◌≡◌};
 
 use crate::chunk_reader::ChunkReader;

@@ -1,3 +1,4 @@
+//! A shelf in memory that never fails.
 ghost use Rattle.std.specs.Prelude.{◌≡◌, IfErr, IfOk, MatchResult, OnErr, OnOk, ok_or};
 ghost use Rattle.std.specs.FinMap.{empty, insert};
 

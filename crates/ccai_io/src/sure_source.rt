@@ -1,3 +1,4 @@
+//! A source in memory that never fails.
 ghost use Rattle.std.specs.Prelude.{◌≡◌, IfOk, OnErr};
 
 use crate::byte_queue::ByteQueue;

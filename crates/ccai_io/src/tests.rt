@@ -1,3 +1,6 @@
+//! What no contract can say: that the adapters do what the system does, and each type once through its
+//! trait.
+
 mod adapters;
 mod memory;
 

@@ -1,3 +1,4 @@
+-- Lemmas of this crate.
 pub mod Lexemes
 pub mod Forms
 pub mod Programs

@@ -1,3 +1,4 @@
+//! The image of a source of the first form: three words for each constant.
 ghost use Rattle.std.specs.Prelude.{◌≡◌, ◌<◌, ◌≤◌, ◌*◌, ◌%◌, ◌^◌, ◌++◌, IfOk, OnOk, length};
 ghost use Rattle.image_form.specs.Limits.{IsWithinLimits};
 ghost use Rattle.rv_table.specs.Instruction.{encode_of};

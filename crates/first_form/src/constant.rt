@@ -1,3 +1,4 @@
+//! Constants of `int` in decimal digits.
 ghost use Rattle.std.specs.Prelude.{◌≡◌, ◌≢◌, ◌≤◌, ℕ, ◌↔◌, IfSome, IsNone, IsTrue, decimal};
 
 use itoa::Buffer;

@@ -1,3 +1,4 @@
+//! Reading a source word by word, with the place of what does not fit.
 ghost use Rattle.std.specs.Prelude.{◌≡◌, ◌≢◌, ◌≤◌, ◌∷◌, ℕ, List, IfNone, [], ◌↔◌, IsTrue, IfSome, decimal};
 ghost use Rattle.std.specs.Bool.{OnFalse, OnTrue};
 ghost use Rattle.first_form.specs.Lexemes.{lexemes};

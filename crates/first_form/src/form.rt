@@ -1,3 +1,4 @@
+//! Sources of the first form as data, and how they are read.
 ghost use Rattle.std.specs.Prelude.{◌≡◌, ◌≢◌, ◌≤◌, ◌∷◌, ◌++◌, ◌*◌, [], ℕ, Bool, List, All, IfErr, IfOk, IfSome, IfNone, OnOk, codes, cond, false, true, decimal, length, map};
 ghost use Rattle.std.specs.List.{flat_map};
 ghost use Rattle.first_form.specs.Form.{Form as FirstForm, IsOfFirstForm, Says, declaration, head, last_statement, put_statement, spelling};

@@ -1,3 +1,4 @@
+//! The lexemes of a source: words, and single bytes.
 ghost use Rattle.std.specs.Prelude.{◌≡◌, ◌∷◌, ◌<◌, ◌≤◌, drop, length, take, [], IfSome, MatchOption};
 ghost use Rattle.std.specs.List.{prefix_len};
 ghost use Rattle.first_form.specs.Lexemes.{is_space, is_word, lexeme_length, lexemes};

@@ -1,3 +1,4 @@
+//! Lines and columns of a source.
 use c_tree::Pos;
 
 /// The place just past some bytes of a source.

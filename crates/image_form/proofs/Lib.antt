@@ -1,3 +1,4 @@
+-- Lemmas of this crate.
 pub mod Chain
 pub mod Right
 pub mod Whole

@@ -1,7 +1,7 @@
 -- The form of an image, by the first offset at which bytes are wrong.
-use Rattle.std.specs.Prelude.{ℕ, zero, suc, ◌+◌, ◌*◌, ◌%◌, ◌^◌, ◌==◌, nat_lt, nat_le, Bool, ◌&&◌, if◌then◌else◌, List, [], ◌∷◌, length, slice_index, Option, Some, None}
+use Rattle.std.specs.Prelude.{ℕ, zero, suc, ◌+◌, ◌*◌, ◌%◌, ◌==◌, nat_lt, nat_le, Bool, ◌&&◌, if◌then◌else◌, List, [], ◌∷◌, length, slice_index, Option, Some, None}
 use Rattle.std.specs.Int.{w32, from_le_bytes}
-use Rattle.image_form.specs.Limits.{text_start}
+use Rattle.image_form.specs.Limits.{text_start, most_words, most_data, most_stack, stack_unit}
 use Rattle.image_form.specs.Rightness.{is_right}
 
 -- the number at an offset, low byte first
@@ -36,9 +36,9 @@ is_entry words entry = nat_le text_start entry && nat_lt entry (text_start + 4 *
 unfoldable pub header_wrong : List ℕ → Option ℕ
 header_wrong b =
     byte_is b 0 82 >> byte_is b 1 86 >> byte_is b 2 73 >> byte_is b 3 49
-    >> number_is b 4 (λ n. nat_le n (2 ^ 28))
-    >> number_is b 8 (λ n. nat_le n (2 ^ 24))
-    >> number_is b 12 (λ n. nat_le n (2 ^ 30) && (n % 8 == 0))
+    >> number_is b 4 (λ n. nat_le n most_words)
+    >> number_is b 8 (λ n. nat_le n most_data)
+    >> number_is b 12 (λ n. nat_le n most_stack && (n % stack_unit == 0))
     >> number_is b 16 (is_entry (word_at b 4))
     >> reaches b 24
 

@@ -1,4 +1,4 @@
--- What reading answers, and which bytes are an image.
+-- What reading answers, and which bytes are an image. These are definitions, which the contracts of `read` and `write` cite.
 use Rattle.std.specs.Prelude.{◌≡◌, ℕ, List, Some, None}
 use Rattle.image_form.specs.declared.image.Image.{Image}
 use Rattle.image_form.specs.declared.fault.ImageFault.{ImageFault}

@@ -1,3 +1,4 @@
+-- The form of an image as bytes, its limits, and what bytes of the form hold.
 pub mod Limits
 pub mod Codes
 pub mod Words
@@ -8,3 +9,4 @@ pub mod Contents
 pub mod Checked
 pub mod Header
 pub mod Laws
+pub mod Examples

@@ -11,12 +11,25 @@ use Rattle.image_form.specs.Words.{words_of}
 abbrev pub text_start : ℕ
 text_start = 0x10000
 
+-- how many words a text has at most, how many bytes data and a stack, and of which number a stack's bytes are a multiple
+abbrev pub most_words : ℕ
+most_words = 2 ^ 28
+
+abbrev pub most_data : ℕ
+most_data = 2 ^ 24
+
+abbrev pub most_stack : ℕ
+most_stack = 2 ^ 30
+
+abbrev pub stack_unit : ℕ
+stack_unit = 8
+
 -- what has a form as bytes
 pub record IsWithinLimits (i : Image) : Type 0 where
-  pub text : length i.text ≤ 2 ^ 28
-  pub statics : length i.statics ≤ 2 ^ 24
-  pub stack : i.stack ≤ 2 ^ 30
-  pub stack_step : i.stack % 8 ≡ 0
+  pub text : length i.text ≤ most_words
+  pub statics : length i.statics ≤ most_data
+  pub stack : i.stack ≤ most_stack
+  pub stack_step : i.stack % stack_unit ≡ 0
   pub entry_low : text_start ≤ i.entry
   pub entry_high : i.entry < text_start + 4 * length i.text
   pub entry_step : i.entry % 4 ≡ 0

@@ -1,3 +1,4 @@
+//! Why bytes are not read as an image.
 ghost use Rattle.std.specs.Prelude.{◌≡◌};
 ghost use Rattle.image_form.specs.declared.fault.ImageFault.TheVariants.{Memory};
 

@@ -1,3 +1,4 @@
+//! Images as data: a program as it is loaded and run, with its listing.
 use term_form::Listing;
 use word_ops::Items;
 

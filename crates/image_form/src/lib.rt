@@ -21,12 +21,14 @@
 mod check;
 mod codes;
 mod contents;
+mod examples;
 mod fault;
 mod image;
 mod reading;
 mod words;
 mod writing;
 
+pub use examples::wrong_offsets;
 pub use fault::ImageFault;
 pub use image::Image;
 pub use reading::read;

@@ -1,3 +1,4 @@
+//! Reading an image: the bytes are checked whole before any memory is taken.
 ghost use Rattle.std.specs.Prelude.{◌≡◌, ◌↔◌, ℕ, IfOk, IfErr, MatchResult, Some, None};
 ghost use Rattle.image_form.specs.declared.image.Image.{Image};
 ghost use Rattle.image_form.specs.Form.{first_wrong};

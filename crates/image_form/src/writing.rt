@@ -1,3 +1,4 @@
+//! Writing an image, whose bytes reading gives back.
 ghost use Rattle.std.specs.Prelude.{◌≡◌, ◌<◌, ◌^◌, ◌++◌, length, All, IfOk, OnOk};
 ghost use Rattle.std.specs.List.{flat_map};
 ghost use Rattle.image_form.specs.Limits.{IsRecord, IsWithinLimits};

@@ -11,7 +11,7 @@ use Rattle.rv_machine.specs.Effect.{Action, Goes, Gets, Puts, Exits, Deepens, Tr
 use Rattle.rv_machine.specs.Step.{step_of}
 use Rattle.rv_machine.specs.Run.{World, answered, byte_or_end, Getting, Putting, Acts, Steps, Went, Ended, Run}
 use Rattle.rv_machine.specs.After.{Moment, beginning, gets, acts, next, after, Left, Answers, FailsReading, FailsWriting, RunsAs, end_of}
-use Rattle.rv_machine.proofs.AfterLaws.{next-going, after-past}
+use Rattle.rv_machine.specs.Laws.After.{next-going, after-past}
 
 -- two pieces that were put one after the other are one
 appends-append : (before mid last : Option (List ℕ)) (xs ys : List ℕ) → Appends before mid xs → Appends mid last ys → Appends before last (xs ++ ys)

@@ -1,3 +1,4 @@
+-- What a machine is, what its steps and runs do, and the laws of both.
 pub mod State
 pub mod Arithmetic
 pub mod Bytes
@@ -10,3 +11,7 @@ pub mod Reading
 pub mod Decoded
 pub mod Pc
 pub mod Pause
+pub mod Sound
+pub mod Operations
+pub mod Laws
+pub mod Examples

@@ -1,5 +1,5 @@
 -- A machine in its environment: one step, and a run of many, over any source and any sink.
-use Rattle.std.specs.Prelude.{◌≡◌, ℕ, zero, suc, ◌+◌, ◌-◌, ◌^◌, ◌<◌, ◌≤◌, List, [], ◌∷◌, Option, Some, None}
+use Rattle.std.specs.Prelude.{◌≡◌, ℕ, zero, suc, ◌+◌, ◌-◌, ◌%◌, ◌^◌, ◌<◌, ◌≤◌, List, [], ◌∷◌, Option, Some, None}
 use Rattle.ccai_io.specs.Outside.{Rose, Takes, Appends, AppendsPrefix}
 use Rattle.rv_machine.specs.declared.answer.Stepped.{Stepped}
 use Rattle.rv_machine.specs.declared.answer.Stepped.TheVariants.{Going, Exit, Deep, Trap, ReadFault, WriteFault}
@@ -25,10 +25,10 @@ world state' left' held' read' write' = record { state = state'; left = left'; h
 abbrev pub answered : State → ℕ → State
 answered m word = record { registers = with_register m.registers 10 word; pc = following m.pc; base = m.base; memory = m.memory }
 
--- the answer to a request for a byte: the byte, or all ones at the end of the input
+-- the answer to a request for a byte: the byte, which counts modulo 2^8, or all ones at the end of the input
 abbrev pub byte_or_end : Option ℕ → ℕ
 byte_or_end None = 2 ^ 32 - 1
-byte_or_end (Some byte) = byte
+byte_or_end (Some byte) = byte % 2 ^ 8
 
 -- a step that asks for a byte: it is taken or the end is met, or the source fails and nothing is taken
 abbrev pub Getting : World → Stepped → World → Type 0

@@ -11,6 +11,10 @@ use Rattle.rv_machine.specs.Effect.{Action, Traps, effect}
 abbrev pub fetched : List ℕ → ℕ → Option ℕ
 fetched text pc = if (pc % 4 == 0) && nat_le 0x10000 pc then slice_get text ((pc - 0x10000) / 4) else None
 
+-- the instruction at an address of the text, if its word is one
+abbrev pub instruction_at : List ℕ → ℕ → Option Instr
+instruction_at text pc = option_and_then decode_of (fetched text pc)
+
 -- what an instruction does, if there is one
 abbrev pub performs : State → Option Instr → Action
 performs m None = Traps m.pc
@@ -18,4 +22,4 @@ performs m (Some i) = effect i.row i.rd (cast_unsigned w32 i.imm) (register_of m
 
 -- what a machine of a text does in a state
 unfoldable pub step_of : List ℕ → State → Action
-step_of text m = performs m (option_and_then decode_of (fetched text m.pc))
+step_of text m = performs m (instruction_at text m.pc)

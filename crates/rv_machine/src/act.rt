@@ -1,3 +1,5 @@
+//! One instruction on registers and memory: the match over the 48 rows in which the runner spends its
+//! time. Each arm is the definition of its row.
 ghost use Rattle.std.specs.Prelude.{◌≡◌, ◌+◌, ◌%◌, ◌^◌, ◌<◌, ◌≤◌, ◌==◌, if◌then◌else◌, length, IsNone, is_some, Some, None};
 ghost use Rattle.rv_machine.specs.State.{following, state, with_register};
 ghost use Rattle.rv_machine.specs.Decoded.{effect_of, ran};

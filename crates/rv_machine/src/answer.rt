@@ -1,3 +1,5 @@
+//! The answers of steps and of runs.
+
 /// What one step answers.
 #[derive(Clone, Copy, Debug, PartialEq, Eq)]
 pub enum Stepped {

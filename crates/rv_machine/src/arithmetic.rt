@@ -1,4 +1,4 @@
-// The words that instructions compute: each function is the definition of its name.
+//! The words that instructions compute: each function is the definition of its name.
 ghost use Rattle.std.specs.Prelude.{◌≡◌, ◌*ℤ◌};
 ghost use Rattle.rv_machine.specs.Arithmetic as words;
 

@@ -1,4 +1,4 @@
-// Numbers in bytes of memory, the lowest byte first: each function is the definition of its name.
+//! Numbers in bytes of memory, the lowest byte first: each function is the definition of its name.
 ghost use Rattle.std.specs.Prelude.{◌≡◌, ◌+◌, ◌*◌, ◌^◌, ◌<◌, ◌≤◌, length, IfSome};
 ghost use Rattle.rv_machine.specs.Bytes as bytes;
 ghost use Rattle.rv_machine.specs.Effect.{place_of};

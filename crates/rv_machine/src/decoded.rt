@@ -1,3 +1,4 @@
+//! The text as the machine keeps it: decoded once, as it is loaded.
 ghost use Rattle.std.specs.Prelude.{◌≡◌, IfOk, IsTrue};
 ghost use Rattle.std.specs.List.{list_all};
 ghost use Rattle.rv_machine.specs.Decoded.{decoded_of, is_in_range, program};

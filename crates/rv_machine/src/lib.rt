@@ -23,7 +23,10 @@ mod runner;
 mod stretch;
 
 pub use answer::{End, Stepped};
-pub use laws::after_laws;
+pub use laws::{
+    after_laws, arithmetic_laws, bytes_laws, cell_laws, examples, register_laws, sound_laws,
+    step_laws,
+};
 pub use loader::load;
 pub use machine::Machine;
 pub use runner::{run, step};

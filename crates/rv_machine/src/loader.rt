@@ -1,3 +1,4 @@
+//! From images to machines: where text, data and stack lie, and what memory and registers hold at first.
 ghost use Rattle.std.specs.Prelude.{◌≡◌, ◌+◌, ◌-◌, ◌^◌, ◌≤◌, ◌++◌, length, replicate, IfOk};
 ghost use Rattle.image_form.specs.Limits.{IsWithinLimits};
 ghost use Rattle.rv_machine.specs.Start.{loaded, up_to_eight};

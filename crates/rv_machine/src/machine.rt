@@ -1,3 +1,4 @@
+//! Machines as data, their readers, and one stretch of a run: instructions up to one that stops.
 ghost use Rattle.std.specs.Prelude.{◌≡◌, ◌<◌, ◌≤◌, IfSome, IsNone, IsSome};
 ghost use Rattle.rv_machine.specs.Pause.{Moves, requested, stopped};
 ghost use Rattle.rv_machine.specs.Reading.{word_at};

@@ -1,3 +1,5 @@
+//! Addresses of instructions, kept as an index into the text so that fetching one needs no test of its
+//! alignment.
 ghost use Rattle.std.specs.Prelude.{◌≡◌, ◌+◌, ◌-◌, ◌*◌, ◌/◌, ◌%◌, ◌^◌, ◌<◌, ◌≤◌, ◌==◌, if◌then◌else◌};
 ghost use Rattle.rv_machine.specs.State.{following};
 ghost use Rattle.rv_machine.specs.Arithmetic.{sum};

@@ -1,3 +1,4 @@
+//! The registers, with a place past the last for the writes to x0.
 ghost use Rattle.std.specs.Prelude.{◌≡◌, ◌%◌, ◌<◌, ◌≤◌, length, replicate};
 ghost use Rattle.rv_machine.specs.State.{register_in, with_register};
 

@@ -1,3 +1,5 @@
+//! What a machine asks of its environment as it stops.
+
 /// What a machine that stopped asks of its environment.
 #[derive(Clone, Copy)]
 pub enum Request {

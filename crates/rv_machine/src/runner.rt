@@ -1,3 +1,4 @@
+//! Steps and runs of a machine over any source and any sink.
 ghost use Rattle.std.specs.Prelude.{◌≡◌, ◌≢◌, ◌≤◌, ℕ, List, Option, Some};
 ghost use Rattle.rv_machine.specs.After.{RunsAs, end_of};
 ghost use Rattle.rv_machine.specs.Effect.{Gets, Puts};

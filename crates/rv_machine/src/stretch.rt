@@ -1,3 +1,4 @@
+//! The loop of the runner: instructions up to one that traps or calls the environment.
 ghost use Rattle.std.specs.Prelude.{◌≡◌, ◌+◌, ◌^◌, ◌<◌, ◌≤◌, length, ℕ, IsTrue, IfSome, IsNone, IsSome};
 ghost use Rattle.std.specs.List.{list_all};
 ghost use Rattle.std.specs.Option.{option_copied};

@@ -1,3 +1,5 @@
+//! From words to instructions: the one row that a word can match is chosen by its opcode, funct3 and
+//! funct7, and its operands are read.
 ghost use Rattle.std.specs.Prelude.{◌≡◌, ◌+◌, ◌*◌, ◌^◌, ◌↔◌, ◌<◌, IfSome, IsNone};
 ghost use Rattle.rv_table.specs.Fields.{bits_at};
 ghost use Rattle.rv_table.specs.Table.{Matches};

@@ -1,3 +1,4 @@
+//! From instructions to words: the fixed bits of the row and the bits of the operands.
 ghost use Rattle.std.specs.Prelude.{◌≡◌, ◌<◌};
 ghost use Rattle.rv_table.specs.Fields.{operands};
 ghost use Rattle.rv_table.specs.Instruction.{Valid, encode_of};

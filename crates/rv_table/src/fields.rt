@@ -1,3 +1,4 @@
+//! Bits of a word, and numbers read with their sign: what decoding is made of.
 ghost use Rattle.std.specs.Prelude.{◌≡◌, ◌+◌, ◌*◌, ◌^◌, ◌<◌, ◌≤◌};
 ghost use Rattle.rv_table.specs.Fields.{bits_at, sign};
 

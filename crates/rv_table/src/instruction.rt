@@ -1,3 +1,4 @@
+//! Instructions as data, and which of them have a word.
 ghost use Rattle.std.specs.Prelude.{◌↔◌, IsTrue};
 ghost use Rattle.rv_table.specs.Fields.{Fits, Within};
 ghost use Rattle.rv_table.specs.Instruction.{Valid};

@@ -1,3 +1,5 @@
+//! The names of the instructions of RV32IM.
+
 /// An instruction of RV32IM by its name.
 ///
 /// The rows are those of the tables "RV32I Base Instruction Set" and "RV32M Standard Extension" of the

@@ -1,3 +1,4 @@
+//! The table of the instructions: the format of each and the bits that it fixes.
 ghost use Rattle.std.specs.Prelude.{◌≡◌};
 ghost use Rattle.rv_table.specs.Table.{instruction_table, mask, matches};
 

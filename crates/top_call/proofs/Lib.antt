@@ -1,3 +1,4 @@
+-- Lemmas of this crate.
 pub mod Tells
 pub mod Runs
 pub mod FirstForms

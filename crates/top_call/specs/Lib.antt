@@ -1,3 +1,4 @@
+-- What a call of the program comes to.
 pub mod CommandLine
 pub mod Outcome
 pub mod Lines

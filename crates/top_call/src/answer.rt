@@ -1,3 +1,4 @@
+//! What a call of the program comes to, and its status.
 ghost use Rattle.std.specs.Prelude.{◌≡◌};
 ghost use Rattle.top_call.specs.Lines.{outcome_of};
 ghost use Rattle.top_call.specs.Outcome.{status_of};

@@ -1,3 +1,4 @@
+//! The call that does all, and the commands: taking the file, running a source and running an image.
 ghost use Rattle.std.specs.Prelude.{◌≡◌, ◌^◌, ◌≤◌, ◌*◌, length, map};
 ghost use Rattle.image_form.specs.Limits.{IsWithinLimits};
 ghost use Rattle.top_call.specs.CommandLine.{line_of};

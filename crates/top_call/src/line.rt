@@ -1,3 +1,4 @@
+//! The words of a command line.
 ghost use Rattle.std.specs.Prelude.{◌≡◌, map, not};
 ghost use Rattle.std.specs.Option.{option_map};
 ghost use Rattle.top_call.specs.CommandLine.{is_plain, line_of, line_of_command};

@@ -1,3 +1,4 @@
+//! The line on standard error that tells an answer.
 ghost use Rattle.std.specs.Prelude.{◌≡◌, ◌++◌, ◌<◌, OnOk, codes, decimal};
 ghost use Rattle.ccai_io.specs.Outside.{Appends, HasCause};
 ghost use Rattle.top_call.specs.Lines.{outcome_of};

@@ -1,9 +1,10 @@
+//! The types in memory, each once through its trait.
 use super::{expect_byte, expect_file, expect_put};
 use crate::{Failed, MemShelf, MemSink, MemSource, ShelfFault, SureShelf, SureSource};
 use std::test::Fail;
 
 #[test]
-fn shelf_gives_its_files_and_fails_where_it_is_told(rt: HostRuntime) -> Result<(), Fail> {
+fn shelves_give_their_files_and_fail_where_they_are_told(rt: HostRuntime) -> Result<(), Fail> {
     let mut shelf = MemShelf::new(rt.alloc());
     shelf.put_file("a.c", b"first")?;
     shelf.put_file("b.c", b"other")?;
@@ -17,17 +18,11 @@ fn shelf_gives_its_files_and_fails_where_it_is_told(rt: HostRuntime) -> Result<(
     expect_file(&rt, &mut shelf, rt.alloc(), "b.c", Ok(b"other"));
     expect_file(&rt, &mut shelf, rt.alloc(), "nope.c", missing);
     expect_file(&rt, &mut shelf, rt.alloc(), "nope.c", failed);
-    Ok(())
-}
-
-#[test]
-fn sure_shelf_gives_its_files(rt: HostRuntime) -> Result<(), Fail> {
-    let mut shelf = SureShelf::new(rt.alloc());
-    shelf.put_file("a.c", b"first")?;
-    shelf.put_file("a.c", b"second")?;
-    let missing = Err(ShelfFault::Missing);
-    expect_file(&rt, &mut shelf, rt.alloc(), "a.c", Ok(b"second"));
-    expect_file(&rt, &mut shelf, rt.alloc(), "b.c", missing);
+    let mut sure = SureShelf::new(rt.alloc());
+    sure.put_file("a.c", b"first")?;
+    sure.put_file("a.c", b"second")?;
+    expect_file(&rt, &mut sure, rt.alloc(), "a.c", Ok(b"second"));
+    expect_file(&rt, &mut sure, rt.alloc(), "b.c", missing);
     Ok(())
 }
 
@@ -43,17 +38,6 @@ fn sources_give_their_bytes_and_then_the_end(rt: HostRuntime) -> Result<(), Fail
         expect_byte(&rt, &mut source, Ok(wanted));
         expect_byte(&rt, &mut sure, Ok(wanted));
     }
-    Ok(())
-}
-
-#[test]
-fn sink_that_fails_at_the_third_call_keeps_two_bytes(rt: HostRuntime) -> Result<(), Fail> {
-    let mut sink = MemSink::new(rt.alloc(), 100)?;
-    sink.fail_at(3, 0)?;
-    expect_put(&rt, &mut sink, b"a", Ok(()));
-    expect_put(&rt, &mut sink, b"b", Ok(()));
-    expect_put(&rt, &mut sink, b"c", Err(Failed));
-    assert_eq!(rt; sink.bytes(), b"ab".as_slice());
     Ok(())
 }
 

@@ -1,4 +1,5 @@
 -- Words and instructions undo each other.
+-- It holds proofs: no contract cites it, and the clauses of `decode` say what they come to.
 use Rattle.std.proofs.Common.{◌≡◌, ℕ, ◌+◌, ◌^◌, ◌<◌, refl, sym, ◌∙◌, ap, subst}
 use Rattle.std.specs.Prelude.{Option, Some, None, ◌↔◌, IfSome, IsNone}
 use Rattle.std.specs.Option.{option_map}

@@ -1,4 +1,5 @@
 -- In each format: the operands leave the fixed bits alone, and what is written is what is read.
+-- It holds proofs: no contract cites it, and the clauses of `decode` say what they come to.
 use Rattle.std.proofs.Common.{◌≡◌, ℕ, ℤ, pos, ◌+◌, ◌*◌, ◌/◌, ◌%◌, ◌^◌, ◌<◌, refl, sym, ◌∙◌, ap, arith}
 use Rattle.std.specs.Prelude.{bit_and}
 use Rattle.std.specs.Int.{w32, cast_unsigned, cast_signed}

@@ -1,4 +1,5 @@
 -- An immediate and its lowest bits: each gives the other.
+-- It holds proofs: no contract cites it, and the clauses of `decode` say what they come to.
 use Rattle.std.proofs.Common.{◌≡◌, ℕ, ℤ, pos, negsuc, ◌+◌, ◌-◌, ◌*◌, ◌%◌, ◌^◌, ◌<◌, ◌≤◌, suc, refl, sym, ◌∙◌, ap, arith, cond, Bool, true, false}
 use Rattle.std.specs.Prelude.{nat_lt}
 use Rattle.std.specs.Int.{w32, cast_unsigned, cast_signed}

@@ -1,4 +1,5 @@
 -- What the first element that passes a test says of a list, and a test of each element of each.
+-- It holds proofs: no contract cites it, and the clauses of `decode` say what they come to.
 use Rattle.std.proofs.Common.{◌≡◌, ℕ, zero, suc, refl, sym, ◌∙◌, ap, cond, Bool, true, false, List, [], ◌∷◌}
 use Rattle.std.specs.Prelude.{Option, Some, None, find, slice_get, ◌&&◌}
 use Rattle.std.specs.List.{list_all}

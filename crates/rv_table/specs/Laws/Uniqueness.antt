@@ -1,4 +1,5 @@
 -- At most one row matches a word: a test over all pairs of rows, and what follows of each pair.
+-- It holds proofs: no contract cites it, and the clauses of `decode` say what they come to.
 use Rattle.std.proofs.Common.{◌≡◌, ℕ, ◌^◌, ◌<◌, refl, sym, ◌∙◌, ap, Bool, true, false}
 use Rattle.std.specs.Prelude.{bit_and, Option, Some, None, find, slice_get, ◌==◌, ◌||◌, ◌&&◌, not, nat_lt}
 use Rattle.std.specs.List.{list_all}

@@ -1,3 +1,4 @@
+-- What the loop over the chunks of a file keeps.
 use Rattle.std.proofs.Common.{◌≤◌, ◌-◌, ◌^◌, vec_len}
 use Rattle.ccai_io.proofs.file_shelf.read_whole.Given as goal
 

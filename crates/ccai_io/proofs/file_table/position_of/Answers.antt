@@ -1,3 +1,4 @@
+-- A file that the search passed over does not have the name, so none has it where the search ends.
 use Rattle.std.proofs.Common.{◌<◌, ◌≤◌, length, sym, ◌∙◌, ap, arith, take_all}
 use Rattle.ccai_io.proofs.Tables.{found, file_of-files_of, not_found_yet}
 use Rattle.ccai_io.proofs.file_table.position_of.Goals as goal

@@ -1,3 +1,4 @@
+-- No file before this one has the name.
 use Rattle.std.proofs.Common.{◌≡◌, take, None}
 use Rattle.ccai_io.proofs.Tables.{found}
 use Rattle.ccai_io.proofs.file_table.position_of.Given as goal

@@ -1,3 +1,4 @@
+-- The image is within the limits.
 use Rattle.first_form.proofs.Programs.{image_fits}
 use Rattle.first_form.proofs.code.image.Goals as goal
 

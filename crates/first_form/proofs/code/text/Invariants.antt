@@ -1,3 +1,4 @@
+-- The words of the constants before this one were put.
 use Rattle.std.proofs.Common.{◌≡◌, take}
 use Rattle.std.specs.List.{flat_map}
 use Rattle.first_form.specs.Code.{put_words}

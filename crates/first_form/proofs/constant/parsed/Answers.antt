@@ -1,3 +1,4 @@
+-- A text that is no number is not the digits of one.
 use Rattle.std.proofs.Common.{sym, subst, ◌∙◌}
 use Rattle.std.specs.Str.{IsUtf8}
 use Rattle.first_form.proofs.Forms.{decimal_utf8, parsed_decimal}

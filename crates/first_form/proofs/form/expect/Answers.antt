@@ -1,3 +1,4 @@
+-- A word that differs ends every form that goes on so.
 use Rattle.first_form.proofs.Forms.{other_word}
 use Rattle.first_form.proofs.form.expect.Goals as goal
 

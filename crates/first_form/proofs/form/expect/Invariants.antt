@@ -1,3 +1,4 @@
+-- The words before this one were taken.
 use Rattle.std.proofs.Common.{◌≡◌, ◌++◌, map, take}
 use Rattle.first_form.proofs.form.expect.Given as goal
 

@@ -1,3 +1,4 @@
+-- A statement more was taken.
 use Rattle.std.proofs.Common.{ap, ◌∙◌, ◌++◌}
 use Rattle.std.specs.List.{flat_map}
 use Rattle.first_form.specs.Form.{put_statement}

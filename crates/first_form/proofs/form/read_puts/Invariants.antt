@@ -1,3 +1,4 @@
+-- The statements so far, and what is left of the source.
 use Rattle.std.proofs.Common.{◌≡◌, ◌≤◌, ◌++◌, All, length}
 use Rattle.std.specs.List.{flat_map}
 use Rattle.first_form.specs.Form.{put_statement}

@@ -1,3 +1,4 @@
+-- Where a part does not fit, no form has these lexemes.
 use Rattle.first_form.proofs.Forms.{if_err_so, unit_unfit, unfits_so}
 use Rattle.first_form.proofs.form.read_unit.Goals as goal
 

@@ -1,3 +1,4 @@
+-- A source says one thing at most.
 use Rattle.first_form.proofs.Forms.{one_form}
 use Rattle.first_form.proofs.form.says_one_thing.Goals as goal
 

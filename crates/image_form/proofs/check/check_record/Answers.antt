@@ -1,3 +1,4 @@
+-- The first wrong word of a record is that of the loop.
 use Rattle.std.proofs.lemmas.Result.{err_from_is_err_and}
 use Rattle.image_form.proofs.Chain.{words_on, words_found, words_done}
 use Rattle.image_form.proofs.check.check_record.Goals as goal

@@ -1,3 +1,4 @@
+-- No word of the record before this place is wrong.
 use Rattle.std.proofs.Common.{◌≡◌, ◌-◌}
 use Rattle.image_form.specs.Form.{words_wrong}
 use Rattle.image_form.proofs.check.check_record.Given as goal

@@ -1,3 +1,4 @@
+-- The first wrong record is that of the loop.
 use Rattle.std.proofs.lemmas.Result.{err_from_is_err_and}
 use Rattle.image_form.proofs.Chain.{records_on, records_found, records_done}
 use Rattle.image_form.proofs.check.check_records.Goals as goal

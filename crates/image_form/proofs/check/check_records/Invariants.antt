@@ -1,3 +1,4 @@
+-- No record before this one is wrong.
 use Rattle.std.proofs.Common.{◌≡◌, ◌+◌, ◌-◌, ◌*◌}
 use Rattle.image_form.specs.Form.{records_wrong}
 use Rattle.image_form.proofs.check.check_records.Given as goal

@@ -1,3 +1,4 @@
+-- What is read lies within the bytes that were checked.
 use Rattle.std.proofs.Common.{arith}
 use Rattle.image_form.proofs.Whole.{whole}
 use Rattle.image_form.proofs.contents.contents.Goals as goal

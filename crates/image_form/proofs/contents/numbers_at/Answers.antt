@@ -1,3 +1,4 @@
+-- A number more was read.
 use Rattle.image_form.proofs.Chain.{numbers_on, numbers_done}
 use Rattle.image_form.proofs.contents.numbers_at.Goals as goal
 

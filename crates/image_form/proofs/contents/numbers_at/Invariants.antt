@@ -1,3 +1,4 @@
+-- The numbers before this place were read.
 use Rattle.std.proofs.Common.{◌≡◌, ◌+◌, ◌*◌, ◌-◌, ◌++◌}
 use Rattle.image_form.specs.Contents.{words_at}
 use Rattle.image_form.proofs.contents.numbers_at.Given as goal

@@ -1,3 +1,4 @@
+-- A record more was read.
 use Rattle.std.proofs.Common.{◌+◌, ◌*◌}
 use Rattle.image_form.proofs.Chain.{listed_on, listed_done}
 use Rattle.image_form.proofs.Right.{record_right_at, term_right}

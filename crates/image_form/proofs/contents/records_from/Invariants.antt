@@ -1,3 +1,4 @@
+-- The records before this one were read.
 use Rattle.std.proofs.Common.{◌≡◌, ◌+◌, ◌*◌, ◌-◌, ◌++◌, None}
 use Rattle.image_form.specs.Form.{records_wrong}
 use Rattle.image_form.specs.Contents.{records_at}

@@ -1,3 +1,4 @@
+-- What was checked is an image, and is read as that.
 use Rattle.std.proofs.Common.{sym, ◌∙◌, subst}
 use Rattle.image_form.specs.declared.image.Image.{Image}
 use Rattle.image_form.specs.Laws.{IsFileOf}

@@ -1,3 +1,4 @@
+-- The numbers before this place were put.
 use Rattle.std.proofs.Common.{◌≡◌, ◌++◌, take}
 use Rattle.std.specs.List.{flat_map}
 use Rattle.image_form.specs.Bytes.{number_bytes}

@@ -1,3 +1,4 @@
+-- A record more was put.
 use Rattle.std.proofs.Common.{◌<◌, ◌^◌, subst, All, List, ℕ}
 use Rattle.std.proofs.lemmas.List.Elements.{All-more}
 use Rattle.image_form.specs.Limits.{IsRecord}

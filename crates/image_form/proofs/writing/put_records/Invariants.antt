@@ -1,3 +1,4 @@
+-- The records before this one were put.
 use Rattle.std.proofs.Common.{◌≡◌, ◌++◌, All, take}
 use Rattle.std.specs.List.{flat_map}
 use Rattle.image_form.specs.Limits.{IsRecord}

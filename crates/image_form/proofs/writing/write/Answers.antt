@@ -1,3 +1,4 @@
+-- The bytes that were put are those of the image.
 use Rattle.std.proofs.Common.{rules, ◌<◌, ◌^◌, All, List, ℕ, subst}
 use Rattle.std.proofs.lemmas.List.{append_assoc}
 use Rattle.term_form.specs.declared.listing.Record.{Record}

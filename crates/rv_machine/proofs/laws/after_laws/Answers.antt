@@ -1,6 +1,7 @@
+-- The laws of a machine after a number of steps.
 use Rattle.std.proofs.Common.{◌∙◌, ap}
 use Rattle.rv_machine.specs.After.{next}
-use Rattle.rv_machine.proofs.AfterLaws.{after-zero, after-suc, after-add, after-ended, next-going}
+use Rattle.rv_machine.specs.Laws.After.{after-zero, after-suc, after-add, after-ended, after-moves, next-going}
 use Rattle.rv_machine.proofs.laws.after_laws.Goals as goal
 
 pub returns-clause-zero : goal.returns-clause-zero
@@ -17,3 +18,6 @@ returns-clause-going c = next-going
 
 pub returns-clause-ended : goal.returns-clause-ended
 returns-clause-ended c = after-ended
+
+pub returns-clause-moves : goal.returns-clause-moves
+returns-clause-moves c = after-moves

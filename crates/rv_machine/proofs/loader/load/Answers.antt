@@ -1,3 +1,4 @@
+-- What is loaded hangs together.
 use Rattle.rv_machine.proofs.Loading.{consistent}
 use Rattle.rv_machine.proofs.loader.load.Goals as goal
 

@@ -1,3 +1,4 @@
+-- When counts of faults rise over a run, and what it is on input that is told.
 use Rattle.rv_machine.proofs.Faults.{run_reads, run_writes}
 use Rattle.rv_machine.proofs.Told.{run_is}
 use Rattle.rv_machine.proofs.runner.run.Goals as goal

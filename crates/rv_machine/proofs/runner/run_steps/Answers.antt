@@ -1,3 +1,4 @@
+-- A stretch and the call that ends it are steps more of the run.
 use Rattle.std.proofs.Common.{◌≡◌, ◌≤◌, ◌<◌, ℕ, List, ◌-◌, sym, ◌∙◌, ap, arith}
 use Rattle.std.specs.Prelude.{Option, Some, None, is_some}
 use Rattle.rv_machine.specs.State.{State, Loaded}

@@ -1,3 +1,4 @@
+-- The steps so far all went on.
 use Rattle.std.proofs.Common.{◌≡◌, ◌-◌, ◌≤◌}
 use Rattle.rv_machine.specs.Run.{Went, world}
 use Rattle.rv_machine.proofs.runner.run_steps.Given as goal

@@ -1,3 +1,4 @@
+-- When counts of faults rise over a step, and what it is on input that is told.
 use Rattle.rv_machine.proofs.Faults.{steps_reads, steps_writes}
 use Rattle.rv_machine.proofs.Runs.{machine_kept}
 use Rattle.rv_machine.proofs.Told.{step_is}

@@ -1,3 +1,4 @@
+-- A stretch of one instruction, or of none and a call, is a step.
 use Rattle.std.proofs.Common.{ap, ◌<◌}
 use Rattle.std.specs.Prelude.{is_some}
 use Rattle.rv_machine.proofs.Runs.{one_step, first_step}

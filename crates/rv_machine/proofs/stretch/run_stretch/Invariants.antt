@@ -1,3 +1,4 @@
+-- The instructions so far led here.
 use Rattle.rv_machine.specs.State.{state}
 use Rattle.rv_machine.specs.Decoded.{MovesIn}
 use Rattle.rv_machine.proofs.stretch.run_stretch.Given as goal

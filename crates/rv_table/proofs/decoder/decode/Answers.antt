@@ -1,3 +1,4 @@
+-- The laws of decoding, of the word that was decoded.
 use Rattle.std.proofs.Common.{arith}
 use Rattle.rv_table.specs.Laws.Decoding.{found, none, again}
 use Rattle.rv_table.proofs.decoder.decode.Goals as goal

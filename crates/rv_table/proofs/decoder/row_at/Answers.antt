@@ -1,3 +1,4 @@
+-- The row that a word matches is the candidate, or there is none.
 use Rattle.std.proofs.Common.{sym, ◌∙◌, arith}
 use Rattle.rv_table.proofs.Choice.{row_of-candidate, row_of-refused, row_of-unlisted}
 use Rattle.rv_table.proofs.decoder.row_at.Goals as goal

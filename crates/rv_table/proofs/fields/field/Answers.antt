@@ -1,3 +1,4 @@
+-- The bits fit into a word.
 use Rattle.std.proofs.Common.{arith}
 use Rattle.rv_table.specs.Laws.Masks.{field_is}
 use Rattle.rv_table.proofs.fields.field.Goals as goal

@@ -1,3 +1,4 @@
+-- The image of a source puts out what the source says.
 use Rattle.top_call.proofs.Sources.{constants_run}
 use Rattle.top_call.proofs.commands.run_form.Goals as goal
 

@@ -1,3 +1,4 @@
+-- The run of a machine is that of its image.
 use Rattle.top_call.specs.Drive.{streams}
 use Rattle.top_call.proofs.Sources.{machine_ran}
 use Rattle.top_call.proofs.commands.run_machine.Goals as goal

@@ -1,3 +1,4 @@
+-- What a source comes to is what its form says.
 use Rattle.std.proofs.Common.{◌≤◌, ◌^◌, length, arith}
 use Rattle.top_call.proofs.Sources.{source_runs}
 use Rattle.top_call.proofs.commands.run_source.Goals as goal

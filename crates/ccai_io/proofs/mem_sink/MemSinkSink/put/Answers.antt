@@ -1,3 +1,4 @@
+-- What a put that fails kept is a prefix of the piece.
 use Rattle.std.proofs.Common.{take, drop, sym, take-append-drop, arith}
 use Rattle.std.proofs.lemmas.Grind.{common_steps}
 use Rattle.ccai_io.proofs.mem_sink.MemSinkSink.put.Goals as goal

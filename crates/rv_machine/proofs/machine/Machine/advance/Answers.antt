@@ -1,3 +1,4 @@
+-- A stretch of the decoded text is steps of the machine.
 use Rattle.std.proofs.Common.{◌≡◌, sym, ◌∙◌, ap, arith, length, take, drop, ◌++◌}
 use Rattle.rv_machine.specs.State.{State, Loaded, state}
 use Rattle.rv_machine.specs.Decoded.{program}

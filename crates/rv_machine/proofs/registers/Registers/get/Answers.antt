@@ -1,3 +1,4 @@
+-- x0 reads 0 since its place is never written.
 use Rattle.std.proofs.Common.{arith}
 use Rattle.rv_machine.proofs.Slots.{register_in-take}
 use Rattle.rv_machine.proofs.registers.Registers.get.Goals as goal

@@ -1,3 +1,4 @@
+-- A slot is the number of a register, or the place for x0.
 use Rattle.rv_machine.proofs.Slots.{take-with_register}
 use Rattle.rv_machine.proofs.registers.Registers.set.Goals as goal
 
