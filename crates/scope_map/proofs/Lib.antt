@@ -1,2 +1,4 @@
 pub mod Marks
 pub mod Latest
+pub mod Linked
+pub mod Sought

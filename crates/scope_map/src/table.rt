@@ -1,10 +1,14 @@
-ghost use Rattle.std.specs.Prelude.{◌≡◌, ℕ, ◌≤◌, List, [], ◌∷◌, ◌++◌, OnErr, OnOk, if◌then◌else◌, drop, is_some, length, take};
+//! The table of names in nested scopes.
+
+ghost use Rattle.std.specs.Prelude.{◌≡◌, ℕ, ◌≤◌, List, [], ◌∷◌, ◌++◌, OnErr, OnOk, if◌then◌else◌, drop, is_some, length, map, take};
 ghost use Rattle.std.specs.List.{list_any};
 ghost use Rattle.std.specs.Option.{option_copied};
+ghost use Rattle.scope_map.specs.Hashes.{hash_of};
 ghost use Rattle.scope_map.specs.Scopes.{Marked, latest};
 
+use crate::places::Places;
 use std::alloc::Global;
-use std::hash::Hash;
+use std::hash::{FoldHasher, Hash, Hasher};
 use std::marker::Model;
 use word_ops::Memory;
 
@@ -13,20 +17,24 @@ use word_ops::Memory;
 ///
 /// A `mark` says how long the table is, and `leave` goes back to it. `Marked now mark at` of the
 /// specification says that the mark was made at the list `at` and not left since.
-#[derive(Debug, Drop)]
+#[derive(Drop)]
 pub struct ScopeMap<K: Eq + Hash + Drop, V: Drop> {
     pairs: Vec<(K, V)>,
+    hashes: Places,
 }
 
 impl<K: Eq + Hash + Drop, V: Drop> Model for ScopeMap<K, V> {
-    ghost use Rattle.std.specs.Prelude.{List};
+    ghost use Rattle.std.specs.Prelude.{◌≡◌, List, map};
     ghost use Rattle.std.specs.Coded.{coded_list, coded×};
+    ghost use Rattle.scope_map.specs.Hashes.{hash_of};
 
     ghost Value = { List (K × V) };
 
     ghost coded = { coded_list (coded× K.code V.code) };
 
     ghost view = { λ table. table.pairs.items };
+
+    ghost invariant = { λ table. table.hashes ≡ map (λ pair. hash_of (K.hash_input pair.0)) table.pairs.items };
 }
 
 impl<K: Eq + Hash + Drop, V: Drop> ScopeMap<K, V> {
@@ -36,6 +44,7 @@ impl<K: Eq + Hash + Drop, V: Drop> ScopeMap<K, V> {
     {
         ScopeMap {
             pairs: Vec::new(alloc),
+            hashes: Places::new(alloc),
         }
     }
 
@@ -44,7 +53,7 @@ impl<K: Eq + Hash + Drop, V: Drop> ScopeMap<K, V> {
         ensures last { option_copied result ≡ latest K.eq self.now key.now }
         ensures found { is_some result ≡ list_any (λ pair. K.eq pair.0 key.now) self.now }
     {
-        latest_in(&self.pairs, key)
+        self.get_between(0, self.mark(), key)
     }
 
     /// The value of the last pair since a mark whose key equals this one, or `None` where no pair since then has the key:
@@ -52,10 +61,7 @@ impl<K: Eq + Hash + Drop, V: Drop> ScopeMap<K, V> {
     pub fn get_since(&self, mark: usize, key: &K) -> Option<&V>
         ensures { option_copied result ≡ latest K.eq (drop mark self.now) key.now }
     {
-        if mark > self.mark() {
-            return None;
-        }
-        latest_in(&self.pairs[mark..], key)
+        self.get_between(mark, self.mark(), key)
     }
 
     /// The value of the last pair since one mark and before another whose key equals this one, or `None` where no such pair
@@ -63,14 +69,18 @@ impl<K: Eq + Hash + Drop, V: Drop> ScopeMap<K, V> {
     pub fn get_between(&self, mark: usize, end: usize, key: &K) -> Option<&V>
         ensures { option_copied result ≡ latest K.eq (drop mark (take end self.now)) key.now }
     {
-        if end > self.mark() {
-            return self.get_since(mark, key);
+        let mut next = self.hashes.last_of(hash_of(key));
+        while let Some(place) = next {
+            if place < mark {
+                return None;
+            }
+            let pair = &self.pairs[place];
+            if place < end && pair.0 == *key {
+                return Some(&pair.1);
+            }
+            next = self.hashes.last_before(place);
         }
-        if mark > end {
-            return None;
-        }
-        let before = &self.pairs[..end];
-        latest_in(&before[mark..], key)
+        None
     }
 
     /// Puts a pair behind the others, so that it hides those of an equal key.
@@ -85,7 +95,12 @@ impl<K: Eq + Hash + Drop, V: Drop> ScopeMap<K, V> {
         ensures hides { OnOk result ((asked : K) → latest K.eq self.new asked ≡ (if K.eq key asked then Some value else latest K.eq self.old asked)) }
         ensures marks { (mark : ℕ) (at : List (K × V)) → Marked self.old mark at → Marked self.new mark at }
     {
-        self.pairs.push((key, value))?;
+        let place = self.pairs.len();
+        self.hashes.push(hash_of(&key))?;
+        if self.pairs.push((key, value)).is_err() {
+            self.hashes.truncate(place);
+            return Err(Memory);
+        }
         Ok(())
     }
 
@@ -93,13 +108,17 @@ impl<K: Eq + Hash + Drop, V: Drop> ScopeMap<K, V> {
     ///
     /// # Errors
     ///
-    /// `Memory` where memory for the pair is wanting.
+    /// `Memory` where memory for the pair is wanting; what stands before the mark has not changed then.
     pub fn insert_at(&mut self, mark: usize, key: K, value: V) -> Result<(), Memory>
         requires { mark ≤ length self.old }
-        ensures { OnOk result (self.new ≡ take mark self.old ++ ((key, value) ∷ drop mark self.old)) }
+        ensures put { OnOk result (self.new ≡ take mark self.old ++ ((key, value) ∷ drop mark self.old)) }
+        ensures kept { OnErr result (take mark self.new ≡ take mark self.old) }
     {
         self.pairs.insert(mark, (key, value))?;
-        Ok(())
+        self.hashes.truncate(mark);
+        let filled = fill(&mut self.hashes, &self.pairs);
+        self.pairs.truncate(self.hashes.len());
+        filled
     }
 
     /// Marks the present scope: the number of pairs.
@@ -118,16 +137,28 @@ impl<K: Eq + Hash + Drop, V: Drop> ScopeMap<K, V> {
         ensures older { (older : ℕ) (at : List (K × V)) → older ≤ mark → Marked self.old older at → Marked self.new older at }
     {
         self.pairs.truncate(mark);
+        self.hashes.truncate(mark);
     }
 }
 
-// The value of the last pair whose key equals this one.
-fn latest_in<'a, K: Eq, V>(pairs: &'a [(K, V)], key: &K) -> Option<&'a V>
-    ensures { option_copied result ≡ latest K.eq pairs.now key.now }
+// The hash of a key.
+fn hash_of<K: Hash>(key: &K) -> u64
+    ensures { result ≡ hash_of (K.hash_input key.now) }
 {
-    pairs
-        .iter()
-        .rev()
-        .find(|pair| pair.0 == *key)
-        .map(|pair| &pair.1)
+    let mut hasher = FoldHasher::default();
+    key.hash(&mut hasher);
+    hasher.finish()
+}
+
+// Puts behind the hashes of the first pairs those of the others, as far as there is memory.
+fn fill<K: Hash, V>(hashes: &mut Places, pairs: &[(K, V)]) -> Result<(), Memory>
+    requires { hashes.old ≡ map (λ pair. hash_of (K.hash_input pair.0)) (take (length hashes.old) pairs.now) }
+    ensures prefix { hashes.new ≡ map (λ pair. hash_of (K.hash_input pair.0)) (take (length hashes.new) pairs.now) }
+    ensures longer { length hashes.old ≤ length hashes.new }
+    ensures full { OnOk result (length hashes.new ≡ length pairs.now) }
+{
+    while hashes.len() < pairs.len() {
+        hashes.push(hash_of(&pairs[hashes.len()].0))?;
+    }
+    Ok(())
 }
