@@ -87,7 +87,10 @@ impl<F: Fn(Global, &mut Cursor<'_>, usize, Wanted) -> Result<Found, Stop>> Gramm
     {
         let specifiers = self.nested_specifiers(input, false)?;
         let typed = name_type(specifiers.as_slice());
-        let declarator = self.nested_declarator(input, Use::Abstract, typed)?;
+        let declarator = or_drop!(
+            self.nested_declarator(input, Use::Abstract, typed),
+            specifiers
+        );
         Ok(TypeName {
             specifiers,
             declarator,

@@ -11,10 +11,10 @@ ghost use Rattle.c_unit_parser.specs.Parts as parts;
 
 use crate::cursor::Cursor;
 use crate::grammar::Grammar;
-use crate::memory::push;
+use crate::memory::pushed;
 use crate::wanted::{Found, Wanted};
 use crate::words::ItemKind;
-use c_expr_parser::ParseFault;
+use c_expr_parser::{ParseFault, or_drop};
 use c_tree::{Block, BlockItem, Keyword, Punct, Stmt};
 use std::alloc::Global;
 use word_ops::Items;
@@ -39,7 +39,8 @@ impl<F: Fn(Global, &mut Cursor<'_>, u32, Wanted) -> Result<Found, ParseFault>> G
             if !goes_item(input) {
                 return Ok(found);
             }
-            push(&mut found, self.nested_item(input, labels)?)?;
+            let next = or_drop!(self.nested_item(input, labels), found);
+            found = pushed(found, next)?;
         }
         Ok(found)
     }
@@ -54,7 +55,7 @@ impl<F: Fn(Global, &mut Cursor<'_>, u32, Wanted) -> Result<Found, ParseFault>> G
     {
         let opening = input.opening(self.more, Punct::LeftBrace)?;
         let items = self.items(input, labels)?;
-        let closing = input.expect(Punct::RightBrace)?;
+        let closing = or_drop!(input.expect(Punct::RightBrace), items);
         Ok(Block {
             opening,
             items,
@@ -103,7 +104,7 @@ impl<F: Fn(Global, &mut Cursor<'_>, u32, Wanted) -> Result<Found, ParseFault>> G
     {
         let word = input.expect_word(Keyword::Case)?;
         let value = input.conditional(self.alloc, self.more)?;
-        let colon = input.expect(Punct::Colon)?;
+        let colon = or_drop!(input.expect(Punct::Colon), value);
         Ok(BlockItem::Case(word, value, colon))
     }
 
