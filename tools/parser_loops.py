@@ -11,6 +11,10 @@ from dataclasses import dataclass
 from pathlib import Path
 
 GENERATED = "-- Written by tools/parser_loops.py."
+HEADS = {
+    "Invariants.antt": "-- What is left of the tokens gives what is left of the list, item by item.",
+    "Answers.antt": "-- An item that is read or refused, and the end of the list, by the lemmas on turns.",
+}
 
 
 @dataclass
@@ -151,7 +155,7 @@ def uses(loop, text):
 
 def write(loop, file, goals, text):
     module = f"Rattle.{loop.parser.crate}.proofs." + loop.function.replace("/", ".")
-    lines = [GENERATED, *uses(loop, text), f"use {module}.{goals} as goal"]
+    lines = [GENERATED, HEADS[file], *uses(loop, text), f"use {module}.{goals} as goal"]
     (loop.folder / file).write_text("\n".join(lines) + "\n" + text)
 
 

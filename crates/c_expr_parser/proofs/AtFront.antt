@@ -1,4 +1,5 @@
 -- From what is read inside a bracket to what a call ensures.
+-- The function value reads what is wanted; each call unwraps its tree and has it from the laws of the grammar.
 use Rattle.std.specs.Prelude.{◌≡◌, ◌≢◌, ℕ, suc, ◌+◌, ◌-◌, ◌≤◌, Bool, List, ◌++◌, length, drop, Result, Ok, Err, refl}
 use Rattle.std.proofs.Common.{ap, sym, ◌∙◌, arith, take, length-append, length-drop}
 use Rattle.std.proofs.lemmas.List.{take-append-drop}

@@ -1,4 +1,5 @@
 -- What the calls ensure, by the trees of a production and the grammar's function on lists.
+-- All of it is the record `Answers`; what stands behind it joins the calls to the productions.
 use Rattle.std.specs.Prelude.{◌≡◌, ◌≢◌, ℕ, ◌+◌, ◌≤◌, true, ◌++◌, length, drop, Option, Some, None, Result, Ok, Err, IfOk, IfErr}
 use Rattle.c_tree.specs.declared.token.Pos.{Pos}
 use Rattle.c_tree.specs.Levelled.{nesting_limit}

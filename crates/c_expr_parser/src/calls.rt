@@ -1,4 +1,5 @@
 //! The public calls.
+//! Each makes a cursor at its place of the tokens, reads what is wanted, and gives the names back.
 
 ghost use Rattle.std.specs.Prelude.{◌≡◌, suc, ◌-◌, ◌≤◌, length};
 ghost use Rattle.c_tree.specs.Levelled.{nesting_limit};

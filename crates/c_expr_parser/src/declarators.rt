@@ -1,4 +1,5 @@
 //! Declarators (C11 6.7.6, 6.7.7).
+//! Pointers, what stands in the middle, and the arrays and parameter lists behind it.
 
 ghost use Rattle.std.specs.Prelude.{◌≡◌, [], ◌∷◌};
 ghost use Rattle.std.specs.Option.{option_copied};

@@ -1,4 +1,5 @@
 //! Why a call, or a production, stopped.
+//! A production gives the reason alone; a call adds the place.
 
 use c_tree::Pos;
 use std::alloc::{AllocError, AllocFailed};

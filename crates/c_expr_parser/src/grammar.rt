@@ -1,4 +1,5 @@
 //! The productions, and what they read inside brackets.
+//! What stands inside a bracket comes from the function value `inside`, as one of three kinds of trees.
 
 ghost use Rattle.std.specs.Prelude.{◌≡◌};
 ghost use Rattle.c_grammar.specs.Read.Depth.{inside};

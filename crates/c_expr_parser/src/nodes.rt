@@ -1,4 +1,5 @@
 //! Nodes with a list, where the list has a part; and what a tree is, as far as the grammar asks.
+//! The shapes of trees are those that the grammar gives to its lists.
 
 ghost use Rattle.std.specs.Prelude.{◌≡◌, MatchResult};
 ghost use Rattle.std.specs.Option.{option_copied};

@@ -1,4 +1,5 @@
 //! Primary, postfix and unary expressions and casts (C11 6.5.1 to 6.5.4).
+//! What an operator joins: the tokens from a run of prefixes to the last suffix.
 
 ghost use Rattle.std.specs.Prelude.{◌≡◌};
 ghost use Rattle.c_grammar.specs.Input as state;

@@ -1,4 +1,5 @@
 //! Binary operators, conditional expressions, assignments and commas (C11 6.5.5 to 6.5.17).
+//! All levels of binary operators are one function of the level.
 
 ghost use Rattle.std.specs.Prelude.{◌≡◌};
 ghost use Rattle.c_grammar.specs.Read.Depth.{inside};

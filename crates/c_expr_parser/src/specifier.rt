@@ -1,4 +1,5 @@
 //! Specifiers (C11 6.7.1 to 6.7.3).
+//! Structs with their members and enums with their enumerators stand among them.
 
 ghost use Rattle.std.specs.Prelude.{◌≡◌, ◌||◌};
 ghost use Rattle.c_tree.specs.declared.token.Punct.TheVariants as p;

@@ -1,4 +1,5 @@
 -- What a call of the crate below reads, from what it ensures.
+-- The call ensures the tree of the longest front, and the grammar reads just that front.
 use Rattle.std.specs.Prelude.{◌≡◌, ℕ, ◌+◌, ◌-◌, ◌≤◌, ◌++◌, length, drop, Ok}
 use Rattle.std.proofs.Common.{ap, sym, ◌∙◌, arith, length-append}
 use Rattle.std.proofs.Math.Seq.{drop-append_seam}

@@ -1,4 +1,5 @@
 //! Blocks and their items (C11 6.8.2, 6.8.1).
+//! A block is a scope; labels stand in that of a `switch` alone.
 
 ghost use Rattle.std.specs.Prelude.{◌≡◌, OnOk};
 ghost use Rattle.c_grammar.specs.Input.{enclosed};

@@ -1,4 +1,5 @@
 //! The tokens that are left, and the names that are visible.
+//! It tells what comes next, takes single tokens, calls the parser of expressions, and opens and leaves scopes.
 
 ghost use Rattle.std.specs.Prelude.{◌≡◌, ℕ, ◌≤◌, true, false, length, MatchResult, OnOk, [], ◌∷◌};
 ghost use Rattle.std.specs.Option.{option_copied};

@@ -1,4 +1,5 @@
 //! Declarations (C11 6.7).
+//! Each declarator is visible from its end, its initialiser included.
 
 ghost use Rattle.std.specs.Prelude.{◌≡◌, OnOk};
 ghost use Rattle.c_tree.specs.Levels.Trees.{declarator_level};

@@ -1,4 +1,5 @@
 //! Initialisers (C11 6.7.9).
+//! An assignment expression, or initialisers in braces, which nest.
 
 ghost use Rattle.std.specs.Prelude.{◌≡◌, OnOk};
 ghost use Rattle.c_grammar.specs.Read.Specifiers as specifiers;

@@ -1,4 +1,5 @@
 //! What stands next to the name of a declarator.
+//! A parameter list there makes what stands before a `{` a definition.
 
 ghost use Rattle.std.specs.Prelude.{◌≡◌, map};
 ghost use Rattle.c_tree.specs.Levels.Names.{Names, in_row};

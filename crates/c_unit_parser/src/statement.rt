@@ -1,4 +1,5 @@
 //! Statements (C11 6.8).
+//! Each body is a scope, and each `else` goes to the nearest `if` that can take it.
 
 ghost use Rattle.std.specs.Prelude.{◌≡◌, ◌≤◌, OnOk};
 ghost use Rattle.c_tree.specs.declared.token.Punct.TheVariants as p;

@@ -1,4 +1,5 @@
 //! Function definitions and units (C11 6.9).
+//! What stands behind the first declarator tells a definition from a declaration.
 
 ghost use Rattle.std.specs.Prelude.{◌≡◌, OnOk};
 ghost use Rattle.c_tree.specs.Levels.Names.{Names};

@@ -1,4 +1,5 @@
 //! What the kinds of tokens stand for.
+//! They tell which statement, and which item of a block, a token begins.
 
 ghost use Rattle.std.specs.Prelude.{◌≡◌, true, [], Some};
 ghost use Rattle.std.specs.Option.{option_copied};

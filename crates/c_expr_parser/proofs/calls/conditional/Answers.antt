@@ -1,3 +1,5 @@
+-- `conditional` answers by the laws on conditional expressions.
+-- They take what is read to all that a call ensures.
 use Rattle.c_grammar.specs.Productions as trees
 use Rattle.c_grammar.specs.Read.Depth as grammar
 use Rattle.c_grammar.specs.Laws.Productions.{conditionals_at_front, no_typedefs_declared}

@@ -1,3 +1,5 @@
+-- `declarator` answers by the laws on declarators.
+-- They take what is read to all that a call ensures.
 use Rattle.c_grammar.specs.Productions as trees
 use Rattle.c_grammar.specs.Read.Depth as grammar
 use Rattle.c_grammar.specs.Laws.Productions.{declarators_at_front, no_typedefs_declared}

@@ -1,3 +1,5 @@
+-- `expression` answers by the laws on expressions.
+-- They take what is read to all that a call ensures.
 use Rattle.c_grammar.specs.Productions as trees
 use Rattle.c_grammar.specs.Read.Depth as grammar
 use Rattle.c_grammar.specs.Laws.Productions.{commas_at_front, no_typedefs_declared}

@@ -1,3 +1,5 @@
+-- `read` gives what is read from its place on, with the place behind it.
+-- No more tokens are left than there were, so that place is their difference.
 use Rattle.std.proofs.Common.{◌≡◌, suc, ◌+◌, ◌-◌, length, drop, Option, Ok, Err, ◌∙◌, ap, rules, arith, add-one, length-drop}
 use Rattle.std.proofs.lemmas.Grind.{common_steps}
 use Rattle.c_tree.specs.declared.token.Pos.{Pos}

@@ -1,3 +1,5 @@
+-- `read_declarator` unwraps what was read, which is a declarator.
+-- A refusal is that of the production.
 use Rattle.std.proofs.Common.{suc, ◌-◌, subst, rules, arith}
 use Rattle.std.proofs.lemmas.Grind.{common_steps}
 use Rattle.c_tree.specs.Levelled.{nesting_limit}

@@ -1,3 +1,5 @@
+-- `read_expression` unwraps what was read, which is an expression.
+-- A refusal is that of the production.
 use Rattle.std.proofs.Common.{suc, ◌-◌, subst, rules, arith}
 use Rattle.std.proofs.lemmas.Grind.{common_steps}
 use Rattle.c_tree.specs.Levelled.{nesting_limit}

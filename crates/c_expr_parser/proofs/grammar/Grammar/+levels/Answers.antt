@@ -1,3 +1,5 @@
+-- The cycle of `levels`, `level_rest` and `level_next`: each reads what its parser of levels reads.
+-- The first climbs level by level, and the second reads the list of one level.
 use Rattle.std.proofs.Common.{rules, arith, refl}
 use Rattle.std.proofs.lemmas.Grind.{common_steps}
 use Rattle.c_grammar.specs.Input.{loop}

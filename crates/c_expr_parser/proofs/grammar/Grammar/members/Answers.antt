@@ -1,4 +1,5 @@
 -- Written by tools/parser_loops.py.
+-- An item that is read or refused, and the end of the list, by the lemmas on turns.
 use Rattle.std.proofs.Common.{rules, arith, refl}
 use Rattle.std.proofs.lemmas.Grind.{common_steps}
 use Rattle.c_expr_parser.proofs.Turns.{item_read, item_refused, items_end, turns_end}
