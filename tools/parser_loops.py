@@ -11,6 +11,10 @@ from dataclasses import dataclass
 from pathlib import Path
 
 GENERATED = "-- Written by tools/parser_loops.py."
+HEADS = {
+    "Invariants.antt": "-- What is left of the tokens gives what is left of the list, item by item.",
+    "Answers.antt": "-- An item that is read or refused, and the end of the list, by the lemmas on turns.",
+}
 
 
 @dataclass
@@ -21,7 +25,6 @@ class Parser:
     state: str  # what of an input the parsers on lists read
     listing: str  # what of an invariant tells the list that is read so far
     clauses: list  # of a call that reads an item: what it reads, and what it leaves as it was
-    pushed: str  # what a call that puts an item behind the others ensures
     inside: str  # what stands for @ below: how much may still be nested, and what is read there
     lemmas: list  # where the lemmas stand
 
@@ -34,8 +37,7 @@ class Loop:
     goes: str  # the test for a further item
     item: str  # the parser of an item
     test: str  # how the goals name the test
-    read: str  # how they name the item that was read: its variable, else the call
-    push: str = "push"  # how they name the call that puts it behind the others
+    is_behind_first: bool = False  # whether an item was put into the list before the loop
     opened: str = ""  # the definition of the whole list
     told: str = ""  # the variable for what the items so far tell
     step: str = ""  # how a further item changes that
@@ -52,11 +54,11 @@ class Loop:
 
 
 EXPRESSIONS = Parser(
-    "c_expr_parser", "", "", ["reads", "keeps"], ".ok", "l.self.more (inside l.self.more)",
+    "c_expr_parser", "", "", ["reads", "keeps"], "l.self.more (inside l.self.more)",
     [("Rattle.c_expr_parser.proofs.Turns", ["Listing", "TellingListing", "item_read", "item_refused", "items_end", "turns_end"])],
 )
 UNITS = Parser(
-    "c_unit_parser", ".state", ".so_far", ["reads", "keeps", "ends"], "", "l.self.more",
+    "c_unit_parser", ".state", ".so_far", ["reads", "keeps", "ends"], "l.self.more",
     [("Rattle.c_expr_parser.proofs.Turns", ["items_end", "turns_end"]),
      ("Rattle.c_unit_parser.proofs.Turns", ["Listing", "TellingListing", "item_read", "item_refused"])],
 )
@@ -69,52 +71,52 @@ BY_CASES = "first_of (search rules, grind (arith, common_steps))"
 
 LOOPS = [
     Loop(EXPRESSIONS, "operands/more_literals", "parts.literals l.fn.first", "(λ i. is_bytes (peek i.1))", LITERAL,
-         "not-is_bytes", "literal", push="push-2"),
+         "not-is_bytes", is_behind_first=True),
     Loop(EXPRESSIONS, GRAMMAR + "more_arguments", f"expressions.nexts production.comma {ARGUMENT}", "(goes production.comma)",
-         f"(expressions.after_operator {ARGUMENT})", "not-goes", "argument", opened="expressions.nexts"),
+         f"(expressions.after_operator {ARGUMENT})", "not-goes", opened="expressions.nexts"),
     Loop(EXPRESSIONS, GRAMMAR + "suffixes", "parts.suffixes @", "(goes production.postfix)", "(expressions.one_suffix @)",
-         "not-goes", "suffix", opened="parts.suffixes"),
+         "not-goes", opened="parts.suffixes"),
     Loop(EXPRESSIONS, GRAMMAR + "run", "parts.run @", "expressions.goes_prefix", "(λ _. expressions.one_prefix @)",
-         "not-goes_prefix", "prefix", opened="parts.run", told="tight", step="(λ _. ties)"),
+         "not-goes_prefix", opened="parts.run", told="tight", step="(λ _. ties)"),
     Loop(EXPRESSIONS, GRAMMAR + "branches", "parts.branches @", "(goes production.conditional)", "(expressions.branch @)",
-         "not-goes", "branch", opened="parts.branches"),
+         "not-goes", opened="parts.branches"),
     Loop(EXPRESSIONS, GRAMMAR + "targets", "parts.targets @ (is_unary l.first)", "expressions.goes_assign",
          "(λ _. expressions.after_operator (expressions.conditional @))",
-         "not-goes", "next", opened="parts.targets", told="unary", step="expressions.last_unary", by=BY_CASES),
+         "not-goes", opened="parts.targets", told="unary", step="expressions.last_unary", by=BY_CASES),
     Loop(EXPRESSIONS, GRAMMAR + "comma_rest", "expressions.nexts production.comma (expressions.assignment @)",
          "(goes production.comma)", "(expressions.after_operator (expressions.assignment @))",
-         "not-goes", "comma_next", opened="expressions.nexts"),
+         "not-goes", opened="expressions.nexts"),
     Loop(EXPRESSIONS, GRAMMAR + "member_declarators", "parts.member_declarators @ l.typed", COMMA,
          "(specifiers.next_member_declarator @ l.typed)",
-         "not-sees", "next_member_declarator", push="push-2", opened="parts.member_declarators"),
+         "not-sees", is_behind_first=True, opened="parts.member_declarators"),
     Loop(EXPRESSIONS, GRAMMAR + "members", "parts.members @", "(specifiers.goes_member @)", "(specifiers.member @)",
-         "not-begins_type", "next", push="push-2", opened="parts.members"),
+         "not-begins_type", is_behind_first=True, opened="parts.members"),
     Loop(EXPRESSIONS, GRAMMAR + "enumerators", "parts.enumerators @", "specifiers.goes_enumerator",
          "(specifiers.next_enumerator @)",
-         "not-goes_enumerator", "next_enumerator", push="push-2", opened="parts.enumerators"),
+         "not-goes_enumerator", is_behind_first=True, opened="parts.enumerators"),
     Loop(EXPRESSIONS, GRAMMAR + "specifiers", "specifiers.specifiers @ l.with_storage",
          "(specifiers.goes_specifier @ l.with_storage)", "(specifiers.one_specifier @ l.with_storage)",
-         "not-begins_specifier", "next", push="push-2", told="typed", step="(specifiers.types @)"),
+         "not-begins_specifier", is_behind_first=True, told="typed", step="(specifiers.types @)"),
     Loop(EXPRESSIONS, "declarators/constants", "parts.constants", "(λ i. is_const (peek i.1))", "(one declarators.const_at)",
-         "not-is_const", "const_word", opened="parts.constants"),
+         "not-is_const", opened="parts.constants"),
     Loop(EXPRESSIONS, "declarators/pointers", "declarators.pointers", "(sees p.Star)", "declarators.pointer",
-         "not-sees", "pointer", opened="declarators.pointers"),
+         "not-sees", opened="declarators.pointers"),
     Loop(EXPRESSIONS, GRAMMAR + "parameter_list", "parts.parameter_list @", COMMA, "(declarators.next_parameter @)",
-         "not-sees", "next_parameter", push="push-2", opened="parts.parameter_list"),
+         "not-sees", is_behind_first=True, opened="parts.parameter_list"),
     Loop(EXPRESSIONS, GRAMMAR + "declarator_suffixes", "parts.declarator_suffixes @", "parts.goes_declarator_suffix",
-         "(declarators.one_suffix @)", "not-sees_suffix", "declarator_suffix", opened="parts.declarator_suffixes"),
+         "(declarators.one_suffix @)", "not-sees_suffix", opened="parts.declarator_suffixes"),
     Loop(UNITS, GRAMMAR + "initialisers", "parts.initialisers @", "initialisers.goes_initialiser",
          "(initialisers.next_initialiser @ (initialisers.inside_initialiser @))",
-         "not-goes_initialiser", "next_initialiser", push="push-2", opened="parts.initialisers"),
+         "not-goes_initialiser", is_behind_first=True, opened="parts.initialisers"),
     Loop(UNITS, GRAMMAR + "more_declarators", "parts.more_declarators @ l.specifiers l.fn.first", COMMA,
          "(declarations.next_declarator @ l.specifiers)",
-         "not-sees", "next_declarator", push="push-2", opened="parts.more_declarators"),
+         "not-sees", is_behind_first=True, opened="parts.more_declarators"),
     Loop(UNITS, GRAMMAR + "items", "parts.items @ l.labels", "statements.goes_item", "((statements.within @).item l.labels)",
-         "not-goes_item", "nested_item", opened="parts.items"),
+         "not-goes_item", opened="parts.items"),
     Loop(UNITS, GRAMMAR + "others", "parts.others @", "statements.goes_else", "(λ _. statements.one_else @ (statements.within @))",
-         "not-goes_else", "next", opened="parts.others", told="may", step="statements.goes_further", tells=BY_CASES),
+         "not-goes_else", opened="parts.others", told="may", step="statements.goes_further", tells=BY_CASES),
     Loop(UNITS, GRAMMAR + "externals", "parts.externals @", "units.goes_external", "(units.one_external @)",
-         "not-goes_external", "external-2", push="push-2", opened="parts.externals"),
+         "not-goes_external", is_behind_first=True, opened="parts.externals"),
 ]
 
 # Where the names in the texts below come from, in the order of their lines.
@@ -153,7 +155,7 @@ def uses(loop, text):
 
 def write(loop, file, goals, text):
     module = f"Rattle.{loop.parser.crate}.proofs." + loop.function.replace("/", ".")
-    lines = [GENERATED, *uses(loop, text), f"use {module}.{goals} as goal"]
+    lines = [GENERATED, HEADS[file], *uses(loop, text), f"use {module}.{goals} as goal"]
     (loop.folder / file).write_text("\n".join(lines) + "\n" + text)
 
 
@@ -180,15 +182,15 @@ def answer(loop, name, term, opened=""):
 def answers(loop):
     listing = f"c.loop-turn.invariant{loop.parser.listing}"
     more = f"c.loop-turn-test.true ({loop.by})"
-    refused = f"c.in_err-{loop.read}.ensures.reads"
-    read = " ".join(f"c.in_ok-{loop.read}.ensures.{clause}" for clause in loop.parser.clauses)
+    refused = "c.in-Err.ensures.reads"
+    read = " ".join(f"c.in-Ok.ensures.{clause}" for clause in loop.parser.clauses)
     told = f"({loop.tells})" if loop.told else "refl"
-    pushed = f"c.in_ok-{loop.push}.ensures{loop.parser.pushed}"
+    pushed = f"c.in_ok-found{'-2' if loop.is_behind_first else ''}.ensures"
     text = ""
     if loop.opened:
         text += answer(loop, "loop-turn-init", BY_CASES, loop.opened)
     text += answer(loop, f"returns-then-{loop.test}-clause-reads", f"items_end {listing} {more}")
-    text += answer(loop, f"returns-in_err-{loop.read}-clause-reads", f"let e = item_refused c.loop-turn.invariant {more} {refused} in search (rules, e)")
+    text += answer(loop, "returns-in-Err-clause-reads", f"let e = item_refused c.loop-turn.invariant {more} {refused} in search (rules, e)")
     text += answer(loop, "loop-turn-preserved", f"item_read c.loop-turn.invariant {more} {read} {told} {pushed}")
     text += answer(loop, "returns-clause-reads", f"turns_end {listing} c.loop-turn-test.false")
     return text

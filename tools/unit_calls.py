@@ -11,6 +11,7 @@ from pathlib import Path
 
 CURSOR = Path("crates/c_unit_parser/proofs/cursor/Cursor")
 GENERATED = "-- Written by tools/unit_calls.py."
+HEAD = "-- What the call below reads is what the grammar reads there, by the lemma on calls."
 
 
 @dataclass
@@ -73,7 +74,7 @@ def main():
     for call in CALLS:
         folder = CURSOR / call.name
         folder.mkdir(parents=True, exist_ok=True)
-        (folder / "Answers.antt").write_text("\n".join([GENERATED, *uses(call)]) + "\n" + answers(call))
+        (folder / "Answers.antt").write_text("\n".join([GENERATED, HEAD, *uses(call)]) + "\n" + answers(call))
 
 
 main()

@@ -1,4 +1,5 @@
 -- From what is read inside a bracket to what a call ensures.
+-- The function value reads what is wanted; each call unwraps its tree and has it from the laws of the grammar.
 use Rattle.std.specs.Prelude.{◌≡◌, ◌≢◌, ℕ, suc, ◌+◌, ◌-◌, ◌≤◌, Bool, List, ◌++◌, length, drop, Result, Ok, Err, refl}
 use Rattle.std.proofs.Common.{ap, sym, ◌∙◌, arith, take, length-append, length-drop}
 use Rattle.std.proofs.lemmas.List.{take-append-drop}
@@ -7,6 +8,7 @@ use Rattle.c_tree.specs.declared.token.Pos.{Pos}
 use Rattle.c_tree.specs.declared.expression.Expr.{Expr}
 use Rattle.c_tree.specs.declared.specifier.Specifier.{Specifier}
 use Rattle.c_tree.specs.declared.declarator.Declarator.{Declarator}
+use Rattle.c_tree.specs.Levelled.{nesting_limit}
 use Rattle.c_tree.specs.Levels.Names.{Names}
 use Rattle.c_tree.specs.Levels.Productions.{conditional, assignment, comma}
 use Rattle.c_grammar.specs.Input.{Tokens, State, Outcome, Parser, Reason, Syntax, Nest, and_then, pure}
@@ -127,59 +129,59 @@ goes_on old new i j from to keeps =
     (drop (length i.0) j.0, to ∙ sym e ∙ ap (λ (l : Names). l ++ drop (length i.0) j.0) (m.kept ∙ from))
 
 module _ (depth : ℕ) (w : Wanted) (old new : Names) (tokens : Tokens) (at : ℕ) (i j : State) (from : i ≡ (old, drop at tokens)) (to : new ≡ j.0) where
-  pub left_there : (x : Found) → read (grammar.inside (suc (call.deepest - depth))) w i ≡ Ok (x, j) → length j.1 ≤ length (drop at tokens)
-  left_there x e = no_more_left (call.deepest - depth) w old j.0 (drop at tokens) j.1 x (ap (λ (k : State). read (grammar.inside (suc (call.deepest - depth))) w k) (sym from) ∙ e)
+  pub left_there : (x : Found) → read (grammar.inside (suc (nesting_limit - depth))) w i ≡ Ok (x, j) → length j.1 ≤ length (drop at tokens)
+  left_there x e = no_more_left (nesting_limit - depth) w old j.0 (drop at tokens) j.1 x (ap (λ (k : State). read (grammar.inside (suc (nesting_limit - depth))) w k) (sym from) ∙ e)
 
-  pub gave_there : (x : Found) (behind : ℕ) → read (grammar.inside (suc (call.deepest - depth))) w i ≡ Ok (x, j) → behind + length j.1 ≡ length tokens
-      → call.Gave (read (grammar.inside (suc (call.deepest - depth))) w) old new tokens at behind x
+  pub gave_there : (x : Found) (behind : ℕ) → read (grammar.inside (suc (nesting_limit - depth))) w i ≡ Ok (x, j) → behind + length j.1 ≡ length tokens
+      → call.Gave (read (grammar.inside (suc (nesting_limit - depth))) w) old new tokens at behind x
   gave_there x behind e p = record {
     rest = j.1;
-    reads = ap (λ (k : State). read (grammar.inside (suc (call.deepest - depth))) w k) (sym from) ∙ e ∙ ap (λ (n : Names). read_of x (n, j.1)) (sym to);
+    reads = ap (λ (k : State). read (grammar.inside (suc (nesting_limit - depth))) w k) (sym from) ∙ e ∙ ap (λ (n : Names). read_of x (n, j.1)) (sym to);
     place = p;
   }
 
-  stops_there : (s : Stop) (end : Pos) (e : ParseFault) → Reads (read (grammar.inside (suc (call.deepest - depth))) w i) (Err s) j → e ≡ call.fault_of s (call.place_or (next_place j.1) end) → e ≢ fault.Memory
-      → call.StopsWith (read (grammar.inside (suc (call.deepest - depth))) w) old (drop at tokens) end e
-  stops_there stop.Syntax end e r is n = record { reason = Syntax; left = j.1; stops = ap (λ (k : State). read (grammar.inside (suc (call.deepest - depth))) w k) (sym from) ∙ r (λ m. cc); is = is }
-  stops_there stop.Nest end e r is n = record { reason = Nest; left = j.1; stops = ap (λ (k : State). read (grammar.inside (suc (call.deepest - depth))) w k) (sym from) ∙ r (λ m. cc); is = is }
+  stops_there : (s : Stop) (end : Pos) (e : ParseFault) → Reads (read (grammar.inside (suc (nesting_limit - depth))) w i) (Err s) j → e ≡ call.fault_of s (call.place_or (next_place j.1) end) → e ≢ fault.Memory
+      → call.StopsWith (read (grammar.inside (suc (nesting_limit - depth))) w) old (drop at tokens) end e
+  stops_there stop.Syntax end e r is n = record { reason = Syntax; left = j.1; stops = ap (λ (k : State). read (grammar.inside (suc (nesting_limit - depth))) w k) (sym from) ∙ r (λ m. cc); is = is }
+  stops_there stop.Nest end e r is n = record { reason = Nest; left = j.1; stops = ap (λ (k : State). read (grammar.inside (suc (nesting_limit - depth))) w k) (sym from) ∙ r (λ m. cc); is = is }
   stops_there stop.Memory end e r is n = absurd (n is)
 
-  pub stopped_there : (s : Stop) (end : Pos) (e : ParseFault) → Reads (read (grammar.inside (suc (call.deepest - depth))) w i) (Err s) j → Keeps i j → e ≡ call.fault_of s (call.place_or (next_place j.1) end)
-      → call.Stopped (read (grammar.inside (suc (call.deepest - depth))) w) old new tokens at end e
+  pub stopped_there : (s : Stop) (end : Pos) (e : ParseFault) → Reads (read (grammar.inside (suc (nesting_limit - depth))) w i) (Err s) j → Keeps i j → e ≡ call.fault_of s (call.place_or (next_place j.1) end)
+      → call.Stopped (read (grammar.inside (suc (nesting_limit - depth))) w) old new tokens at end e
   stopped_there s end e r keeps is = record { kept = goes_on old new i j (ap (λ (k : State). k.0) from) to keeps; stops = stops_there s end e r is }
 
 -- ---- the clauses of a call
 
-module _ {A : Type 0} (t : Trees A) (reads : ℕ → Parser A) (at_front : (more : ℕ) → OkAtFront t more (reads more)) (old new : Names) (tokens : Tokens) (at depth : ℕ) (end : Pos) (fits : at ≤ length tokens) (small : depth ≤ call.deepest) where
-  there : (behind : ℕ) (a : A) (g : call.Gave (reads (call.deepest - depth)) old new tokens at behind a) → FrontFound t (call.deepest - depth) old (drop at tokens) a (new, g.rest)
-  there behind a g = (at_front (call.deepest - depth)).found old (drop at tokens) a (new, g.rest) g.reads
+module _ {A : Type 0} (t : Trees A) (reads : ℕ → Parser A) (at_front : (more : ℕ) → OkAtFront t more (reads more)) (old new : Names) (tokens : Tokens) (at depth : ℕ) (end : Pos) (fits : at ≤ length tokens) (small : depth ≤ nesting_limit) where
+  there : (behind : ℕ) (a : A) (g : call.Gave (reads (nesting_limit - depth)) old new tokens at behind a) → FrontFound t (nesting_limit - depth) old (drop at tokens) a (new, g.rest)
+  there behind a g = (at_front (nesting_limit - depth)).found old (drop at tokens) a (new, g.rest) g.reads
 
-  is_read : (behind : ℕ) (a : A) → call.Gave (reads (call.deepest - depth)) old new tokens at behind a → call.IsRead t old (drop at tokens) depth a
-  is_read behind a g = let f = there behind a g in let n : t.nesting a ≤ call.deepest - depth = f.nested in record { levelled = f.levelled; nested = omega arith; rest = g.rest; front = f.front }
+  is_read : (behind : ℕ) (a : A) → call.Gave (reads (nesting_limit - depth)) old new tokens at behind a → call.IsRead t old (drop at tokens) depth a
+  is_read behind a g = let f = there behind a g in let n : t.nesting a ≤ nesting_limit - depth = f.nested in record { levelled = f.levelled; nested = omega arith; rest = g.rest; front = f.front }
 
-  place : (behind : ℕ) (a : A) → call.Gave (reads (call.deepest - depth)) old new tokens at behind a → behind ≡ at + length (t.spelling a)
+  place : (behind : ℕ) (a : A) → call.Gave (reads (nesting_limit - depth)) old new tokens at behind a → behind ≡ at + length (t.spelling a)
   place behind a g = let f = there behind a g in let p : behind + length g.rest ≡ length tokens = g.place in omega (arith, ap length f.front.whole, length-append (t.spelling a) g.rest, length-drop at tokens)
 
-  pub is_found : (r : Result (A × ℕ) ParseFault) → call.Gives (reads (call.deepest - depth)) old new tokens at end r → call.Found t old (drop at tokens) depth r
+  pub is_found : (r : Result (A × ℕ) ParseFault) → call.Gives (reads (nesting_limit - depth)) old new tokens at end r → call.Found t old (drop at tokens) depth r
   is_found (Ok p) g = is_read p.1 p.0 g
   is_found (Err e) g = tt
 
-  pub is_behind : (r : Result (A × ℕ) ParseFault) → call.Gives (reads (call.deepest - depth)) old new tokens at end r → call.Behind t at r
+  pub is_behind : (r : Result (A × ℕ) ParseFault) → call.Gives (reads (nesting_limit - depth)) old new tokens at end r → call.Behind t at r
   is_behind (Ok p) g = place p.1 p.0 g
   is_behind (Err e) g = tt
 
-  pub comes : (r : Result (A × ℕ) ParseFault) → call.Gives (reads (call.deepest - depth)) old new tokens at end r → call.Comes t old (drop at tokens) depth at r
+  pub comes : (r : Result (A × ℕ) ParseFault) → call.Gives (reads (nesting_limit - depth)) old new tokens at end r → call.Comes t old (drop at tokens) depth at r
   comes (Ok p) g a is _ =
-      let n : depth + t.nesting a ≤ call.deepest = is.nested in
-      let w = ok_pair {A = A} p.0 a (new, g.rest) (old ++ t.declares old a, is.rest) (sym g.reads ∙ (at_front (call.deepest - depth)).comes old (drop at tokens) is.rest a is.levelled (omega arith) is.front) in
+      let n : depth + t.nesting a ≤ nesting_limit = is.nested in
+      let w = ok_pair {A = A} p.0 a (new, g.rest) (old ++ t.declares old a, is.rest) (sym g.reads ∙ (at_front (nesting_limit - depth)).comes old (drop at tokens) is.rest a is.levelled (omega arith) is.front) in
       ap (λ (m : ℕ). given p.0 m) (place p.1 p.0 g) ∙ ap (λ (x : A). given x (at + length (t.spelling x))) w.0
   comes (Err e) g a is not_memory =
-      let n : depth + t.nesting a ≤ call.deepest = is.nested in
+      let n : depth + t.nesting a ≤ nesting_limit = is.nested in
       let s = g.stops (λ m. not_memory (ap (λ (x : ParseFault). given_up {A = A} x) m)) in
-      let there = (at_front (call.deepest - depth)).comes old (drop at tokens) is.rest a is.levelled (omega arith) is.front in
+      let there = (at_front (nesting_limit - depth)).comes old (drop at tokens) is.rest a is.levelled (omega arith) is.front in
       absurd (cc (s.stops, there))
 
-  pub is_declared : (r : Result (A × ℕ) ParseFault) → call.Gives (reads (call.deepest - depth)) old new tokens at end r → call.Declared t old new r
+  pub is_declared : (r : Result (A × ℕ) ParseFault) → call.Gives (reads (nesting_limit - depth)) old new tokens at end r → call.Declared t old new r
   is_declared (Ok p) g = (there p.1 p.0 g).names_are
   is_declared (Err e) g = tt
 
@@ -195,24 +197,15 @@ pub is_refused : {A : Type 0} (parser : Parser A) (old new : Names) (tokens : To
 is_refused parser old new tokens at end (Ok p) g = tt
 is_refused parser old new tokens at end (Err e) g = g.stops
 
--- all clauses of a call
-pub record Clauses {A : Type 0} (t : Trees A) (parser : Parser A) (old new : Names) (tokens : Tokens) (at depth : ℕ) (end : Pos) (r : Result (A × ℕ) ParseFault) : Type 0 where
-  pub found : call.Found t old (drop at tokens) depth r
-  pub behind : call.Behind t at r
-  pub comes : call.Comes t old (drop at tokens) depth at r
-  pub declared : call.Declared t old new r
-  pub plain : call.NoTypedef t old r
-  pub kept : call.Kept old new r
-  pub refused : call.Refused parser old (drop at tokens) end r
-
-pub clauses : {A : Type 0} (t : Trees A) (reads : ℕ → Parser A) → ((more : ℕ) → OkAtFront t more (reads more)) → DeclaresNoTypedefs t → (old new : Names) (tokens : Tokens) (at depth : ℕ) (end : Pos) → at ≤ length tokens → depth ≤ call.deepest
-    → (r : Result (A × ℕ) ParseFault) → call.Gives (reads (call.deepest - depth)) old new tokens at end r → Clauses t (reads (call.deepest - depth)) old new tokens at depth end r
+-- all that a call ensures
+pub clauses : {A : Type 0} (t : Trees A) (reads : ℕ → Parser A) → ((more : ℕ) → OkAtFront t more (reads more)) → DeclaresNoTypedefs t → (old new : Names) (tokens : Tokens) (at depth : ℕ) (end : Pos) → at ≤ length tokens → depth ≤ nesting_limit
+    → (r : Result (A × ℕ) ParseFault) → call.Gives (reads (nesting_limit - depth)) old new tokens at end r → call.Answers t (reads (nesting_limit - depth)) old new tokens at depth end r
 clauses t reads at_front plain old new tokens at depth end fits small r g = record {
   found = is_found t reads at_front old new tokens at depth end fits small r g;
   behind = is_behind t reads at_front old new tokens at depth end fits small r g;
   comes = comes t reads at_front old new tokens at depth end fits small r g;
   declared = is_declared t reads at_front old new tokens at depth end fits small r g;
   plain = no_typedef t reads at_front old new tokens at depth end fits small plain r;
-  kept = is_kept (reads (call.deepest - depth)) old new tokens at end r g;
-  refused = is_refused (reads (call.deepest - depth)) old new tokens at end r g;
+  kept = is_kept (reads (nesting_limit - depth)) old new tokens at end r g;
+  refused = is_refused (reads (nesting_limit - depth)) old new tokens at end r g;
 }

@@ -1,4 +1,5 @@
 -- Where no bracket may be opened.
+-- Nothing is read inside one then: the grammar stops at the token that would open it.
 use Rattle.std.specs.Prelude.{◌≡◌, Err, refl}
 use Rattle.c_grammar.specs.Input.{State, Nest}
 use Rattle.c_grammar.specs.Read.Depth.{inside}

@@ -1,4 +1,5 @@
 -- A production that reads a list of which one item must stand, by the list of all its items.
+-- The grammar reads the first item and then a list; the loops of the parser read all items into one list.
 use Rattle.std.specs.Prelude.{◌≡◌, ℕ, Bool, false, List, [], ◌∷◌, Option, None, length, Ok, Err, refl}
 use Rattle.std.proofs.Common.{ap, sym, ◌∙◌}
 use Rattle.c_tree.specs.declared.token.Pos.{Pos}

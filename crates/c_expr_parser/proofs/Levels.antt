@@ -1,4 +1,5 @@
 -- The levels of operators: read one in the other, or one behind the other.
+-- The grammar reads each level inside the next; the parser climbs from the first operand, level by level.
 use Rattle.std.specs.Prelude.{◌≡◌, ◌≢◌, ℕ, zero, suc, ◌+◌, ◌-◌, ◌<◌, ◌≤◌, List, Ok, Err, refl}
 use Rattle.std.proofs.Common.{ap, sym, ◌∙◌, add-one, arith}
 use Rattle.c_tree.specs.declared.expression.Level.{Level}

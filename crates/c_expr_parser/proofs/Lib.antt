@@ -1,3 +1,5 @@
+-- The lemmas of this crate.
+-- Those on marks, turns, lists and names serve the parser of units too.
 pub mod Turns
 pub mod Lists
 pub mod Levels

@@ -1,4 +1,5 @@
 -- A list that is read behind an item that is there, and a search through a list.
+-- The first serves the loops that read lists, the second the loops that look for a specifier.
 use Rattle.std.specs.Prelude.{◌≡◌, ℕ, zero, suc, ◌+◌, ◌<◌, Bool, true, false, ◌||◌, if◌then◌else◌, List, [], ◌∷◌, ◌++◌, length, get_or, drop, Ok, Err, refl}
 use Rattle.std.proofs.Common.{ap, sym, ◌∙◌, add-one, drop-cons}
 use Rattle.c_grammar.specs.Input.{State, Parser, Outcome, and_then, pure, loop}

@@ -1,4 +1,5 @@
 -- Marks of the names.
+-- A scope that ends goes back to its mark, and each older mark stays good.
 use Rattle.std.specs.Prelude.{◌≡◌, ℕ, ◌≤◌, length}
 use Rattle.std.proofs.Common.{ap, sym, subst, arith}
 use Rattle.std.proofs.lemmas.List.{length-take}

@@ -1,4 +1,5 @@
 -- The name that a declarator declares stands in its middle.
+-- Each lemma is one kind of middle, as the function `declared_name` meets it.
 use Rattle.std.specs.Prelude.{◌≡◌, Some, None}
 use Rattle.std.proofs.Common.{ap, sym, ◌∙◌}
 use Rattle.c_tree.specs.declared.token.Pos.{Pos}

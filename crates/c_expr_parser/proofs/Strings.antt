@@ -1,4 +1,5 @@
 -- String literals side by side: the first, and the list behind it.
+-- The grammar puts the first before the list that it reads; the parser begins its list with it.
 use Rattle.std.specs.Prelude.{◌≡◌, ℕ, List, [], ◌∷◌, length, Ok, Err, refl}
 use Rattle.std.proofs.Common.{ap, sym, ◌∙◌}
 use Rattle.c_tree.specs.declared.expression.Literal.{Literal}

@@ -1,4 +1,5 @@
 -- A recursion on a count of turns, beside a loop that counts up.
+-- What the loop has read and what the recursion has left are together what the recursion gives at the start.
 use Rattle.std.proofs.Common.{◌≡◌, ◌≢◌, ℕ, suc, ◌+◌, ◌-◌, ◌<◌, ◌≤◌, Bool, true, false, List, [], ◌∷◌, ◌++◌, Ok, Err, refl, ap, ◌∙◌, arith}
 use Rattle.c_grammar.specs.Input.{State, Tokens, Outcome, Parser, loop}
 use Rattle.c_expr_parser.specs.declared.fault.Stop.{Stop}

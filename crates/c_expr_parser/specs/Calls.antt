@@ -1,6 +1,8 @@
 -- What the calls ensure, by the trees of a production and the grammar's function on lists.
+-- All of it is the record `Answers`; what stands behind it joins the calls to the productions.
 use Rattle.std.specs.Prelude.{◌≡◌, ◌≢◌, ℕ, ◌+◌, ◌≤◌, true, ◌++◌, length, drop, Option, Some, None, Result, Ok, Err, IfOk, IfErr}
 use Rattle.c_tree.specs.declared.token.Pos.{Pos}
+use Rattle.c_tree.specs.Levelled.{nesting_limit}
 use Rattle.c_tree.specs.Levels.Names.{Names}
 use Rattle.c_grammar.specs.Input.{Tokens, Reason, Syntax, Nest, Parser}
 use Rattle.c_grammar.specs.Fronts.{Trees, IsFront, no_typedefs}
@@ -9,10 +11,6 @@ use Rattle.c_expr_parser.specs.declared.fault.ParseFault.TheVariants as fault
 use Rattle.c_expr_parser.specs.declared.fault.Stop.{Stop}
 use Rattle.c_expr_parser.specs.declared.fault.Stop.TheVariants as stop
 use Rattle.c_expr_parser.specs.Reads.{next_place}
-
--- how deep brackets may be open
-abbrev pub deepest : ℕ
-deepest = 256
 
 -- one list is the other with something behind it
 abbrev pub GoesOn : Names → Names → Type 0
@@ -39,7 +37,7 @@ module _ {A : Type 0} (trees : Trees A) where
   -- within the limit.
   pub record IsRead (names : Names) (tokens : Tokens) (depth : ℕ) (tree : A) : Type 0 where
     pub levelled : trees.levelled names tree
-    pub nested : depth + trees.nesting tree ≤ deepest
+    pub nested : depth + trees.nesting tree ≤ nesting_limit
     pub rest : Tokens
     pub front : IsFront trees names tokens (trees.spelling tree) rest
 
@@ -70,6 +68,16 @@ Kept old new result = IfErr result (λ _. GoesOn old new)
 -- A refusal that is not for memory is that of the grammar's function.
 abbrev pub Refused : {A : Type 0} → Parser A → Names → Tokens → Pos → Result (A × ℕ) ParseFault → Type 0
 Refused parser names tokens end result = IfErr result (λ e. e ≢ fault.Memory → StopsWith parser names tokens end e)
+
+-- What a call answers that reads from place `at` of the tokens, where so many brackets are open.
+pub record Answers {A : Type 0} (trees : Trees A) (parser : Parser A) (old new : Names) (tokens : Tokens) (at depth : ℕ) (end : Pos) (result : Result (A × ℕ) ParseFault) : Type 0 where
+  pub found : Found trees old (drop at tokens) depth result
+  pub behind : Behind trees at result
+  pub comes : Comes trees old (drop at tokens) depth at result
+  pub declared : Declared trees old new result
+  pub plain : NoTypedef trees old result
+  pub kept : Kept old new result
+  pub refused : Refused parser old (drop at tokens) end result
 
 -- ---- between the calls and the productions
 

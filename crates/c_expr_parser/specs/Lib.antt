@@ -1,3 +1,5 @@
+-- What the contracts of this crate cite.
+-- Calls has what the public calls ensure, the others what the productions do.
 pub mod Numbers
 pub mod Reads
 pub mod Wanted

@@ -1,4 +1,5 @@
 -- A function value that reads what stands inside brackets, where so many more may be opened.
+-- It is what each production asks of the value that it is given, and what the one recursive function is.
 use Rattle.std.specs.Prelude.{ℕ, Result}
 use Rattle.std.specs.declared.alloc.Global.{Global}
 use denote.Ref.{MutBor}

@@ -1,4 +1,5 @@
 -- The productions, as the definitions of the grammar number them, and the uses of declarators.
+-- The code has enums where the grammar counts.
 use Rattle.std.specs.Prelude.{ℕ}
 use Rattle.c_tree.specs.Levels.Productions as production
 use Rattle.c_tree.specs.Levels.Facts as facts

@@ -1,4 +1,5 @@
 -- Parts of the productions: lists of which the first item is read or is given, and the levels of operators as one function.
+-- Each is what one function of the parser computes that is no production by itself.
 use Rattle.std.specs.Prelude.{ℕ, zero, suc, Bool, false, ◌&&◌, ◌||◌, List, [], ◌∷◌, None, length, slice_index_or}
 use Rattle.c_tree.specs.declared.token.Pos.{Pos}
 use Rattle.c_tree.specs.declared.token.Punct.TheVariants as p

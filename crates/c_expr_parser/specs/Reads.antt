@@ -1,4 +1,5 @@
 -- What a function that reads from a cursor ensures.
+-- It computes a parser of the grammar on lists, and leaves each mark of the names good.
 use Rattle.std.specs.Prelude.{◌≡◌, ◌≢◌, ℕ, [], ◌∷◌, Option, Some, None, Result, Ok, Err}
 use Rattle.scope_map.specs.Scopes.{Marked}
 use Rattle.c_tree.specs.declared.token.Pos.{Pos}

@@ -1,4 +1,5 @@
 -- What is read inside brackets, by what is wanted there.
+-- It says of the function value, in one parser, what the productions of the grammar say apart.
 use Rattle.c_grammar.specs.Input.{Parser, ◌>>=◌, pure}
 use Rattle.c_grammar.specs.Read.Inner.{Inner}
 use Rattle.c_expr_parser.specs.declared.wanted.Wanted.{Wanted}

@@ -1,6 +1,8 @@
 //! The public calls.
+//! Each makes a cursor at its place of the tokens, reads what is wanted, and gives the names back.
 
-ghost use Rattle.std.specs.Prelude.{◌≡◌, suc, ◌-◌, ◌≤◌, length, drop};
+ghost use Rattle.std.specs.Prelude.{◌≡◌, suc, ◌-◌, ◌≤◌, length};
+ghost use Rattle.c_tree.specs.Levelled.{nesting_limit};
 ghost use Rattle.c_tree.specs.Levels.Productions as production;
 ghost use Rattle.c_grammar.specs.Read.Depth as grammar;
 ghost use Rattle.c_grammar.specs.Productions as trees;
@@ -50,7 +52,7 @@ fn read(
 ) -> Result<(Found, usize), ParseFault>
     requires place { at ≤ length tokens.now.list }
     requires nesting { depth ≤ 256 }
-    ensures { call.Gives (inner.read (grammar.inside (suc (call.deepest - depth))) wanted) names.old names.new tokens.now.list at tokens.now.end result }
+    ensures { call.Gives (inner.read (grammar.inside (suc (nesting_limit - depth))) wanted) names.old names.new tokens.now.list at tokens.now.end result }
 {
     let visible = mem::replace(names, ScopeMap::new(alloc));
     let mut input = Cursor::new(visible, &tokens.list.as_slice()[at..]);
@@ -75,7 +77,7 @@ fn read_expression(
 ) -> Result<(Expr, usize), ParseFault>
     requires place { at ≤ length tokens.now.list }
     requires nesting { depth ≤ 256 }
-    ensures { call.Gives (grammar.expression (call.deepest - depth) (within_number within)) names.old names.new tokens.now.list at tokens.now.end result }
+    ensures { call.Gives (grammar.expression (nesting_limit - depth) (within_number within)) names.old names.new tokens.now.list at tokens.now.end result }
 {
     let (found, behind) = read(alloc, tokens, at, names, depth, Wanted::Expression(within))?;
     match found {
@@ -94,7 +96,7 @@ fn read_specifiers(
 ) -> Result<(Specifiers, usize), ParseFault>
     requires place { at ≤ length tokens.now.list }
     requires nesting { depth ≤ 256 }
-    ensures { call.Gives (grammar.specifiers (call.deepest - depth) with_storage) names.old names.new tokens.now.list at tokens.now.end result }
+    ensures { call.Gives (grammar.specifiers (nesting_limit - depth) with_storage) names.old names.new tokens.now.list at tokens.now.end result }
 {
     let (found, behind) = read(
         alloc,
@@ -121,7 +123,7 @@ fn read_declarator(
 ) -> Result<(Declarator, usize), ParseFault>
     requires place { at ≤ length tokens.now.list }
     requires nesting { depth ≤ 256 }
-    ensures { call.Gives (grammar.declarator (call.deepest - depth) (use_of purpose) typed) names.old names.new tokens.now.list at tokens.now.end result }
+    ensures { call.Gives (grammar.declarator (nesting_limit - depth) (use_of purpose) typed) names.old names.new tokens.now.list at tokens.now.end result }
 {
     let (found, behind) = read(
         alloc,
@@ -145,8 +147,8 @@ fn read_declarator(
 ///
 /// # Errors
 ///
-/// `Syntax` where that front is the spelling of no expression, at the token behind it or the end; `Nest` at the first
-/// token that would be nested more than 256 deep, and `Memory`. `names` may have got further names then.
+/// `Syntax` and `Nest` where the grammar's function on lists stops for that reason, at the place of the first token that it
+/// leaves, or at the end of the tokens; `Memory` where memory is wanting. `names` may have got further names then.
 pub fn expression(
     alloc: Global,
     tokens: &Tokens,
@@ -156,13 +158,7 @@ pub fn expression(
 ) -> Result<(Expr, usize), ParseFault>
     requires place { at ≤ length tokens.now.list }
     requires nesting { depth ≤ 256 }
-    ensures found { call.Found (trees.expressions production.comma) names.old (drop at tokens.now.list) depth result }
-    ensures behind { call.Behind (trees.expressions production.comma) at result }
-    ensures comes { call.Comes (trees.expressions production.comma) names.old (drop at tokens.now.list) depth at result }
-    ensures declared { call.Declared (trees.expressions production.comma) names.old names.new result }
-    ensures plain { call.NoTypedef (trees.expressions production.comma) names.old result }
-    ensures kept { call.Kept names.old names.new result }
-    ensures refused { call.Refused (grammar.expression (call.deepest - depth) production.comma) names.old (drop at tokens.now.list) tokens.now.end result }
+    ensures { call.Answers (trees.expressions production.comma) (grammar.expression (nesting_limit - depth) production.comma) names.old names.new tokens.now.list at depth tokens.now.end result }
 {
     read_expression(alloc, tokens, at, names, depth, Within::Comma)
 }
@@ -177,13 +173,7 @@ pub fn assignment(
 ) -> Result<(Expr, usize), ParseFault>
     requires place { at ≤ length tokens.now.list }
     requires nesting { depth ≤ 256 }
-    ensures found { call.Found (trees.expressions production.assignment) names.old (drop at tokens.now.list) depth result }
-    ensures behind { call.Behind (trees.expressions production.assignment) at result }
-    ensures comes { call.Comes (trees.expressions production.assignment) names.old (drop at tokens.now.list) depth at result }
-    ensures declared { call.Declared (trees.expressions production.assignment) names.old names.new result }
-    ensures plain { call.NoTypedef (trees.expressions production.assignment) names.old result }
-    ensures kept { call.Kept names.old names.new result }
-    ensures refused { call.Refused (grammar.expression (call.deepest - depth) production.assignment) names.old (drop at tokens.now.list) tokens.now.end result }
+    ensures { call.Answers (trees.expressions production.assignment) (grammar.expression (nesting_limit - depth) production.assignment) names.old names.new tokens.now.list at depth tokens.now.end result }
 {
     read_expression(alloc, tokens, at, names, depth, Within::Assignment)
 }
@@ -198,13 +188,7 @@ pub fn conditional(
 ) -> Result<(Expr, usize), ParseFault>
     requires place { at ≤ length tokens.now.list }
     requires nesting { depth ≤ 256 }
-    ensures found { call.Found (trees.expressions production.conditional) names.old (drop at tokens.now.list) depth result }
-    ensures behind { call.Behind (trees.expressions production.conditional) at result }
-    ensures comes { call.Comes (trees.expressions production.conditional) names.old (drop at tokens.now.list) depth at result }
-    ensures declared { call.Declared (trees.expressions production.conditional) names.old names.new result }
-    ensures plain { call.NoTypedef (trees.expressions production.conditional) names.old result }
-    ensures kept { call.Kept names.old names.new result }
-    ensures refused { call.Refused (grammar.expression (call.deepest - depth) production.conditional) names.old (drop at tokens.now.list) tokens.now.end result }
+    ensures { call.Answers (trees.expressions production.conditional) (grammar.expression (nesting_limit - depth) production.conditional) names.old names.new tokens.now.list at depth tokens.now.end result }
 {
     read_expression(alloc, tokens, at, names, depth, Within::Conditional)
 }
@@ -221,13 +205,7 @@ pub fn specifiers(
 ) -> Result<(Specifiers, usize), ParseFault>
     requires place { at ≤ length tokens.now.list }
     requires nesting { depth ≤ 256 }
-    ensures found { call.Found (trees.specifier_lists with_storage) names.old (drop at tokens.now.list) depth result }
-    ensures behind { call.Behind (trees.specifier_lists with_storage) at result }
-    ensures comes { call.Comes (trees.specifier_lists with_storage) names.old (drop at tokens.now.list) depth at result }
-    ensures declared { call.Declared (trees.specifier_lists with_storage) names.old names.new result }
-    ensures plain { call.NoTypedef (trees.specifier_lists with_storage) names.old result }
-    ensures kept { call.Kept names.old names.new result }
-    ensures refused { call.Refused (grammar.specifiers (call.deepest - depth) with_storage) names.old (drop at tokens.now.list) tokens.now.end result }
+    ensures { call.Answers (trees.specifier_lists with_storage) (grammar.specifiers (nesting_limit - depth) with_storage) names.old names.new tokens.now.list at depth tokens.now.end result }
 {
     read_specifiers(alloc, tokens, at, names, depth, with_storage)
 }
@@ -247,13 +225,7 @@ pub fn declarator(
 ) -> Result<(Declarator, usize), ParseFault>
     requires place { at ≤ length tokens.now.list }
     requires nesting { depth ≤ 256 }
-    ensures found { call.Found (trees.declarators (use_of purpose) typed) names.old (drop at tokens.now.list) depth result }
-    ensures behind { call.Behind (trees.declarators (use_of purpose) typed) at result }
-    ensures comes { call.Comes (trees.declarators (use_of purpose) typed) names.old (drop at tokens.now.list) depth at result }
-    ensures declared { call.Declared (trees.declarators (use_of purpose) typed) names.old names.new result }
-    ensures plain { call.NoTypedef (trees.declarators (use_of purpose) typed) names.old result }
-    ensures kept { call.Kept names.old names.new result }
-    ensures refused { call.Refused (grammar.declarator (call.deepest - depth) (use_of purpose) typed) names.old (drop at tokens.now.list) tokens.now.end result }
+    ensures { call.Answers (trees.declarators (use_of purpose) typed) (grammar.declarator (nesting_limit - depth) (use_of purpose) typed) names.old names.new tokens.now.list at depth tokens.now.end result }
 {
     read_declarator(alloc, tokens, at, names, depth, purpose, typed)
 }

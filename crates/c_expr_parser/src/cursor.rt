@@ -1,6 +1,7 @@
 //! The tokens that are left, and the names that are visible.
+//! It tells what comes next, takes single tokens, and opens and leaves scopes.
 
-ghost use Rattle.std.specs.Prelude.{◌≡◌, ℕ, ◌≤◌, length, take, MatchResult, [], ◌∷◌, IfOk};
+ghost use Rattle.std.specs.Prelude.{◌≡◌, ℕ, ◌≤◌, length, take, MatchResult, [], ◌∷◌};
 ghost use Rattle.std.specs.Option.{option_copied};
 ghost use Rattle.scope_map.specs.Scopes.{Marked};
 ghost use Rattle.c_tree.specs.Levels.Names.{Names, is_typedef_name};
@@ -12,13 +13,14 @@ ghost use Rattle.c_expr_parser.specs.Reads.{Reads, Keeps, next_place};
 ghost use Rattle.c_expr_parser.specs.declared.fault.Stop.TheVariants as stop;
 
 use crate::fault::Stop;
+use crate::memory::copied;
 use crate::production::{Production, joined_by, number_of};
 use crate::words::{begins_mark, is_mark, is_sizeof, word_begins};
 use c_tree::{Identifier, Pos, Punct, Token, TokenKind};
 use scope_map::ScopeMap;
 use std::alloc::Global;
 use std::marker::Model;
-use word_ops::{Memory, Text};
+use word_ops::Text;
 
 /// The tokens that are left, and the names that are visible, each with whether it is a typedef name.
 #[derive(Drop)]
@@ -33,13 +35,6 @@ impl<'a> Model for Cursor<'a> {
     ghost Value = { State };
 
     ghost view = { λ c. (c.names, c.rest.now) };
-}
-
-/// A text of the same bytes.
-pub fn copied(alloc: Global, text: &Text) -> Result<Text, Memory>
-    ensures { IfOk result (λ copy. copy ≡ text.now) }
-{
-    Ok(Text::from_vec(Vec::from_slice(alloc, text.as_slice())?))
 }
 
 impl<'a> Cursor<'a> {

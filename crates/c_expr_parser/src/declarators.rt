@@ -1,6 +1,7 @@
 //! Declarators (C11 6.7.6, 6.7.7).
+//! Pointers, what stands in the middle, and the arrays and parameter lists behind it.
 
-ghost use Rattle.std.specs.Prelude.{◌≡◌};
+ghost use Rattle.std.specs.Prelude.{◌≡◌, [], ◌∷◌};
 ghost use Rattle.std.specs.Option.{option_copied};
 ghost use Rattle.c_grammar.specs.Input as state;
 ghost use Rattle.c_grammar.specs.Read.Depth.{inside};
@@ -10,9 +11,10 @@ ghost use Rattle.c_expr_parser.specs.Parts as parts;
 ghost use Rattle.c_expr_parser.specs.Reads.{Reads, Keeps};
 ghost use Rattle.c_expr_parser.specs.Nests.{Nests};
 
-use crate::cursor::{Cursor, copied};
+use crate::cursor::Cursor;
 use crate::fault::Stop;
 use crate::grammar::Grammar;
+use crate::memory::{boxed, copied, pushed};
 use crate::nodes::{declared_name, have_typedef, is_nothing, name_type};
 use crate::wanted::{Found, Use, Wanted, Within};
 use crate::words::{is_const, is_mark, is_void};
@@ -21,7 +23,7 @@ use c_tree::{
     TokenKind,
 };
 use std::alloc::Global;
-use word_ops::{Boxed, Items};
+use word_ops::{Items, Text};
 
 #[tactic(auto, unfolding(c_grammar::specs::Input::one, c_grammar::specs::Input::behind))]
 fn const_word(input: &mut Cursor<'_>) -> Result<Pos, Stop>
@@ -58,7 +60,8 @@ fn constants(alloc: Global, input: &mut Cursor<'_>) -> Result<Items<Pos>, Stop>
         if !is_const(input.kind()) {
             return Ok(found);
         }
-        found.push(const_word(input)?)?;
+        let next = or_drop!(const_word(input), found);
+        found = pushed(found, next)?;
     }
     Ok(found)
 }
@@ -83,7 +86,8 @@ fn pointers(alloc: Global, input: &mut Cursor<'_>) -> Result<Items<Pointer>, Sto
         if !input.sees(Punct::Star) {
             return Ok(found);
         }
-        found.push(pointer(alloc, input)?)?;
+        let next = or_drop!(pointer(alloc, input), found);
+        found = pushed(found, next)?;
     }
     Ok(found)
 }
@@ -128,6 +132,14 @@ fn sees_void(input: &Cursor<'_>) -> bool
     is_void(input.kind()) && is_mark(input.second(), Punct::RightParen)
 }
 
+// Makes a copy of the name visible.
+fn declare(alloc: Global, input: &mut Cursor<'_>, name: &Text, is_typedef: bool) -> Result<(), Stop>
+    ensures reads { Reads (state.declare ((name.now, is_typedef) ∷ []) input.old) result input.new }
+    ensures keeps { Keeps input.old input.new }
+{
+    input.declare(copied(alloc, name)?, is_typedef)
+}
+
 #[tactic(auto, unfolding(c_grammar::specs::Input::one))]
 fn no_name(purpose: Use) -> Result<Direct, Stop>
     ensures { (i : state.State) → Reads (spec.no_name (use_of purpose) i) result i }
@@ -149,10 +161,11 @@ impl<F: Fn(Global, &mut Cursor<'_>, usize, Wanted) -> Result<Found, Stop>> Gramm
         let from = input.opening(self.more, Punct::LeftParen)?;
         let inner = self.nested_declarator(input, purpose, typed)?;
         if is_nothing(&inner) {
+            drop(inner);
             return Err(Stop::Syntax);
         }
-        let inner = Boxed::new(self.alloc, inner)?;
-        let to = input.expect(Punct::RightParen)?;
+        let inner = boxed(self.alloc, inner)?;
+        let to = or_drop!(input.expect(Punct::RightParen), inner);
         Ok(Direct::Grouped(from, inner, to))
     }
 
@@ -185,7 +198,7 @@ impl<F: Fn(Global, &mut Cursor<'_>, usize, Wanted) -> Result<Found, Stop>> Gramm
             return Ok(DeclaratorSuffix::Array(from, to));
         }
         let size = self.expr(input, Within::Conditional)?;
-        let to = input.expect(Punct::RightBracket)?;
+        let to = or_drop!(input.expect(Punct::RightBracket), size);
         Ok(DeclaratorSuffix::ArrayOf(from, size, to))
     }
 
@@ -201,10 +214,17 @@ impl<F: Fn(Global, &mut Cursor<'_>, usize, Wanted) -> Result<Found, Stop>> Gramm
         ensures keeps { Keeps input.old input.new }
     {
         let typed = name_type(specifiers.as_slice());
-        let declarator = self.nested_declarator(input, Use::Parameter, typed)?;
+        let declarator = or_drop!(
+            self.nested_declarator(input, Use::Parameter, typed),
+            specifiers
+        );
         if let Some(name) = declared_name(&declarator) {
-            let name = copied(self.alloc, name)?;
-            input.declare(name, have_typedef(specifiers.as_slice()))?;
+            let is_typedef = have_typedef(specifiers.as_slice());
+            or_drop!(
+                declare(self.alloc, input, name, is_typedef),
+                specifiers,
+                declarator
+            );
         }
         Ok(Parameter {
             comma,
@@ -240,13 +260,14 @@ impl<F: Fn(Global, &mut Cursor<'_>, usize, Wanted) -> Result<Found, Stop>> Gramm
         ensures reads { Reads (parts.parameter_list self.now.more (inside self.now.more) input.old) result input.new }
         ensures keeps { Keeps input.old input.new }
     {
-        let mut found = Items::new(self.alloc);
-        found.push(self.parameter(input, None)?)?;
+        let first = self.parameter(input, None)?;
+        let mut found = pushed(Items::new(self.alloc), first)?;
         for _turn in 0..input.left() {
             if !input.sees(Punct::Comma) {
                 return Ok(found);
             }
-            found.push(self.next_parameter(input)?)?;
+            let next = or_drop!(self.next_parameter(input), found);
+            found = pushed(found, next)?;
         }
         Ok(found)
     }
@@ -260,7 +281,7 @@ impl<F: Fn(Global, &mut Cursor<'_>, usize, Wanted) -> Result<Found, Stop>> Gramm
     {
         let scope = input.mark();
         let parameters = self.parameter_list(input)?;
-        let to = input.expect(Punct::RightParen)?;
+        let to = or_drop!(input.expect(Punct::RightParen), parameters);
         input.leave(scope);
         Ok(DeclaratorSuffix::Parameters(from, parameters, to))
     }
@@ -307,7 +328,8 @@ impl<F: Fn(Global, &mut Cursor<'_>, usize, Wanted) -> Result<Found, Stop>> Gramm
             if !sees_suffix(input) {
                 return Ok(found);
             }
-            found.push(self.declarator_suffix(input)?)?;
+            let next = or_drop!(self.declarator_suffix(input), found);
+            found = pushed(found, next)?;
         }
         Ok(found)
     }
@@ -325,8 +347,8 @@ impl<F: Fn(Global, &mut Cursor<'_>, usize, Wanted) -> Result<Found, Stop>> Gramm
         ensures keeps { Keeps input.old input.new }
     {
         let pointers = pointers(self.alloc, input)?;
-        let direct = self.middle(input, purpose, typed)?;
-        let suffixes = self.declarator_suffixes(input)?;
+        let direct = or_drop!(self.middle(input, purpose, typed), pointers);
+        let suffixes = or_drop!(self.declarator_suffixes(input), pointers, direct);
         Ok(Declarator {
             pointers,
             direct,

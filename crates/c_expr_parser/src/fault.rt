@@ -1,4 +1,5 @@
 //! Why a call, or a production, stopped.
+//! A production gives the reason alone; a call adds the place.
 
 use c_tree::Pos;
 use std::alloc::{AllocError, AllocFailed};
@@ -8,10 +9,10 @@ use word_ops::Memory;
 /// Why a call read no tree.
 #[derive(Debug, Drop, Error)]
 pub enum ParseFault {
-    /// The token at this place would be nested more than 256 deep.
+    /// The grammar stops here, where tokens may nest no deeper than 256.
     #[error("nested too deeply")]
     Nest(Pos),
-    /// No sentence of the production begins with the tokens up to the one at this place, or the tokens end there.
+    /// The grammar stops here, at a token with which the production does not go on, or where the tokens end.
     #[error("syntax")]
     Syntax(Pos),
     /// Memory is wanting.
@@ -22,7 +23,7 @@ pub enum ParseFault {
 /// Why a production stopped. The cursor stands at the place.
 #[derive(Clone, Copy, Debug, PartialEq, Eq)]
 pub enum Stop {
-    /// No sentence begins with the tokens up to the next one.
+    /// The grammar does not go on with the next token.
     Syntax,
     /// The next token would be nested too deeply.
     Nest,

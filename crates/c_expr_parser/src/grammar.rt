@@ -1,4 +1,5 @@
 //! The productions, and what they read inside brackets.
+//! What stands inside a bracket comes from the function value `inside`, as one of three kinds of trees.
 
 ghost use Rattle.std.specs.Prelude.{◌≡◌};
 ghost use Rattle.c_grammar.specs.Read.Depth.{inside};
@@ -87,7 +88,10 @@ impl<F: Fn(Global, &mut Cursor<'_>, usize, Wanted) -> Result<Found, Stop>> Gramm
     {
         let specifiers = self.nested_specifiers(input, false)?;
         let typed = name_type(specifiers.as_slice());
-        let declarator = self.nested_declarator(input, Use::Abstract, typed)?;
+        let declarator = or_drop!(
+            self.nested_declarator(input, Use::Abstract, typed),
+            specifiers
+        );
         Ok(TypeName {
             specifiers,
             declarator,

@@ -1,4 +1,5 @@
 //! The recursion on the brackets that may still be opened.
+//! It makes the grammar of the brackets that are left and hands itself to it.
 
 ghost use Rattle.std.specs.Prelude.{◌≡◌};
 ghost use Rattle.c_grammar.specs.Read.Depth as depth;

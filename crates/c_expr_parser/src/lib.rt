@@ -5,12 +5,29 @@
 //! grammar of the brackets that may still be opened and hands itself to it. Brackets may be open 256 deep.
 #![tactic(auto)]
 
+/// What was read; a refusal is given on, and what was kept till then is let go of by name.
+///
+/// `?` says the same, but the proof that it lets go of each value that is there takes long.
+#[macro_export]
+macro_rules! or_drop {
+    ($read:expr, $($kept:ident),+) => {
+        match $read {
+            Ok(found) => found,
+            Err(refusal) => {
+                $(drop($kept);)+
+                return Err(refusal);
+            }
+        }
+    };
+}
+
 mod calls;
 mod cursor;
 mod declarators;
 mod fault;
 mod grammar;
 mod inside;
+mod memory;
 mod nodes;
 mod operands;
 mod operators;
@@ -21,4 +38,7 @@ mod words;
 
 pub use calls::{Names, assignment, conditional, declarator, expression, specifiers};
 pub use fault::ParseFault;
+pub use memory::copied;
+pub use nodes::{declared_name, have_typedef, name_type};
 pub use wanted::Use;
+pub use words::{is_mark, word_begins};

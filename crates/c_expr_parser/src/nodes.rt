@@ -1,37 +1,43 @@
 //! Nodes with a list, where the list has a part; and what a tree is, as far as the grammar asks.
+//! The shapes of trees are those that the grammar gives to its lists.
 
-ghost use Rattle.std.specs.Prelude.{◌≡◌, OnOk, IfOk};
+ghost use Rattle.std.specs.Prelude.{◌≡◌, MatchResult};
 ghost use Rattle.std.specs.Option.{option_copied};
 ghost use Rattle.c_tree.specs.Levels.Names.{Names};
 ghost use Rattle.c_tree.specs.Levels.Trees.{declarator_level};
 ghost use Rattle.c_grammar.specs.Read.Nodes as spec;
 ghost use Rattle.c_tree.specs.Levels.Facts.{kind_of_mark};
 ghost use Rattle.c_tree.specs.declared.declarator.Direct.{out-Direct};
+ghost use Rattle.c_expr_parser.specs.declared.fault.Stop.TheVariants as stop;
 
+use crate::fault::Stop;
+use crate::memory::boxed;
 use c_tree::{
     Branch, Declarator, Direct, Expr, Level, Next, Prefix, Punct, Specifier, Storage, Suffix,
 };
-use std::alloc::{AllocError, Global};
-use word_ops::{Boxed, Items, Text};
+use std::alloc::Global;
+use word_ops::{Items, Text};
 
 /// A postfix expression (C11 6.5.2), or its operand where there is no suffix.
-pub fn with_suffixes(alloc: Global, first: Expr, rest: Items<Suffix>) -> Result<Expr, AllocError>
-    ensures { IfOk result (λ e. e ≡ spec.with_suffixes first rest) }
+pub fn with_suffixes(alloc: Global, first: Expr, rest: Items<Suffix>) -> Result<Expr, Stop>
+    ensures { MatchResult result (λ e. e ≡ spec.with_suffixes first rest) (λ e. e ≡ stop.Memory) }
 {
     if rest.is_empty() {
         return Ok(first);
     }
-    Ok(Expr::Postfix(Boxed::new(alloc, first)?, rest))
+    let first = or_drop!(boxed(alloc, first), rest);
+    Ok(Expr::Postfix(first, rest))
 }
 
 /// An operand with the prefixes before it (C11 6.5.3, 6.5.4), or alone where there is none.
-pub fn with_run(alloc: Global, run: Items<Prefix>, operand: Expr) -> Result<Expr, AllocError>
-    ensures { IfOk result (λ e. e ≡ spec.with_run run operand) }
+pub fn with_run(alloc: Global, run: Items<Prefix>, operand: Expr) -> Result<Expr, Stop>
+    ensures { MatchResult result (λ e. e ≡ spec.with_run run operand) (λ e. e ≡ stop.Memory) }
 {
     if run.is_empty() {
         return Ok(operand);
     }
-    Ok(Expr::Prefixed(run, Boxed::new(alloc, operand)?))
+    let operand = or_drop!(boxed(alloc, operand), run);
+    Ok(Expr::Prefixed(run, operand))
 }
 
 /// Operators of a level with their operands (C11 6.5.5 to 6.5.14), or the first operand where there is no operator.
@@ -40,43 +46,47 @@ pub fn with_operands(
     level: Level,
     first: Expr,
     rest: Items<Next>,
-) -> Result<Expr, AllocError>
-    ensures { IfOk result (λ e. e ≡ spec.with_operands level first rest) }
+) -> Result<Expr, Stop>
+    ensures { MatchResult result (λ e. e ≡ spec.with_operands level first rest) (λ e. e ≡ stop.Memory) }
 {
     if rest.is_empty() {
         return Ok(first);
     }
-    Ok(Expr::Binary(level, Boxed::new(alloc, first)?, rest))
+    let first = or_drop!(boxed(alloc, first), rest);
+    Ok(Expr::Binary(level, first, rest))
 }
 
 /// A conditional expression (C11 6.5.15), or its first operand where there is no `?`.
-pub fn with_branches(alloc: Global, first: Expr, rest: Items<Branch>) -> Result<Expr, AllocError>
-    ensures { IfOk result (λ e. e ≡ spec.with_branches first rest) }
+pub fn with_branches(alloc: Global, first: Expr, rest: Items<Branch>) -> Result<Expr, Stop>
+    ensures { MatchResult result (λ e. e ≡ spec.with_branches first rest) (λ e. e ≡ stop.Memory) }
 {
     if rest.is_empty() {
         return Ok(first);
     }
-    Ok(Expr::Conditional(Boxed::new(alloc, first)?, rest))
+    let first = or_drop!(boxed(alloc, first), rest);
+    Ok(Expr::Conditional(first, rest))
 }
 
 /// An assignment (C11 6.5.16), or its first operand where nothing is assigned.
-pub fn with_targets(alloc: Global, first: Expr, rest: Items<Next>) -> Result<Expr, AllocError>
-    ensures { IfOk result (λ e. e ≡ spec.with_targets first rest) }
+pub fn with_targets(alloc: Global, first: Expr, rest: Items<Next>) -> Result<Expr, Stop>
+    ensures { MatchResult result (λ e. e ≡ spec.with_targets first rest) (λ e. e ≡ stop.Memory) }
 {
     if rest.is_empty() {
         return Ok(first);
     }
-    Ok(Expr::Assign(Boxed::new(alloc, first)?, rest))
+    let first = or_drop!(boxed(alloc, first), rest);
+    Ok(Expr::Assign(first, rest))
 }
 
 /// Operands with commas between (C11 6.5.17), or the first where there is no comma.
-pub fn with_commas(alloc: Global, first: Expr, rest: Items<Next>) -> Result<Expr, AllocError>
-    ensures { IfOk result (λ e. e ≡ spec.with_commas first rest) }
+pub fn with_commas(alloc: Global, first: Expr, rest: Items<Next>) -> Result<Expr, Stop>
+    ensures { MatchResult result (λ e. e ≡ spec.with_commas first rest) (λ e. e ≡ stop.Memory) }
 {
     if rest.is_empty() {
         return Ok(first);
     }
-    Ok(Expr::Comma(Boxed::new(alloc, first)?, rest))
+    let first = or_drop!(boxed(alloc, first), rest);
+    Ok(Expr::Comma(first, rest))
 }
 
 #[tactic(auto, unfolding(c_grammar::specs::Read::Nodes::is_cast))]

@@ -1,4 +1,5 @@
 //! Primary, postfix and unary expressions and casts (C11 6.5.1 to 6.5.4).
+//! What an operator joins: the tokens from a run of prefixes to the last suffix.
 
 ghost use Rattle.std.specs.Prelude.{◌≡◌};
 ghost use Rattle.c_grammar.specs.Input as state;
@@ -9,9 +10,10 @@ ghost use Rattle.c_expr_parser.specs.Parts as parts;
 ghost use Rattle.c_expr_parser.specs.Reads.{Reads, Keeps};
 ghost use Rattle.c_expr_parser.specs.Nests.{Nests};
 
-use crate::cursor::{Cursor, copied};
+use crate::cursor::Cursor;
 use crate::fault::Stop;
 use crate::grammar::Grammar;
+use crate::memory::{boxed, copied, pushed};
 use crate::nodes::{ties, with_run, with_suffixes};
 use crate::production::Production;
 use crate::wanted::{Found, Wanted, Within};
@@ -20,7 +22,7 @@ use c_tree::{
     Expr, Identifier, Keyword, Literal, Mark, Next, Pos, Prefix, Punct, Suffix, TokenKind,
 };
 use std::alloc::Global;
-use word_ops::{Boxed, Items};
+use word_ops::Items;
 
 // A name that is no typedef name, or a constant.
 #[tactic(auto, unfolding(c_grammar::specs::Input::one, c_grammar::specs::Input::behind))]
@@ -120,13 +122,13 @@ fn more_literals(
     ensures reads { Reads (parts.literals first input.old) result input.new }
     ensures keeps { Keeps input.old input.new }
 {
-    let mut found = Items::new(alloc);
-    found.push(first)?;
+    let mut found = pushed(Items::new(alloc), first)?;
     for _turn in 0..input.left() {
         if !is_bytes(input.kind()) {
             return Ok(found);
         }
-        found.push(literal(alloc, input)?)?;
+        let next = or_drop!(literal(alloc, input), found);
+        found = pushed(found, next)?;
     }
     Ok(found)
 }
@@ -192,8 +194,8 @@ impl<F: Fn(Global, &mut Cursor<'_>, usize, Wanted) -> Result<Found, Stop>> Gramm
         ensures keeps { Keeps input.old input.new }
     {
         let from = input.opening(self.more, Punct::LeftParen)?;
-        let inner = Boxed::new(self.alloc, self.expr(input, Within::Comma)?)?;
-        let to = input.expect(Punct::RightParen)?;
+        let inner = boxed(self.alloc, self.expr(input, Within::Comma)?)?;
+        let to = or_drop!(input.expect(Punct::RightParen), inner);
         Ok(Expr::Paren(from, inner, to))
     }
 
@@ -221,7 +223,7 @@ impl<F: Fn(Global, &mut Cursor<'_>, usize, Wanted) -> Result<Found, Stop>> Gramm
     {
         let from = input.opening(self.more, Punct::LeftBracket)?;
         let inner = self.expr(input, Within::Comma)?;
-        let to = input.expect(Punct::RightBracket)?;
+        let to = or_drop!(input.expect(Punct::RightBracket), inner);
         Ok(Suffix::Index(from, inner, to))
     }
 
@@ -246,7 +248,8 @@ impl<F: Fn(Global, &mut Cursor<'_>, usize, Wanted) -> Result<Found, Stop>> Gramm
             if !input.goes(Production::Comma) {
                 return Ok(found);
             }
-            found.push(self.argument(input)?)?;
+            let next = or_drop!(self.argument(input), found);
+            found = pushed(found, next)?;
         }
         Ok(found)
     }
@@ -257,8 +260,8 @@ impl<F: Fn(Global, &mut Cursor<'_>, usize, Wanted) -> Result<Found, Stop>> Gramm
         ensures keeps { Keeps input.old input.new }
     {
         let first = self.expr(input, Within::Assignment)?;
-        let rest = self.more_arguments(input)?;
-        let to = input.expect(Punct::RightParen)?;
+        let rest = or_drop!(self.more_arguments(input), first);
+        let to = or_drop!(input.expect(Punct::RightParen), first, rest);
         Ok(Suffix::CallWith(from, first, rest, to))
     }
 
@@ -311,7 +314,8 @@ impl<F: Fn(Global, &mut Cursor<'_>, usize, Wanted) -> Result<Found, Stop>> Gramm
             if !input.goes(Production::Postfix) {
                 return Ok(found);
             }
-            found.push(self.suffix(input)?)?;
+            let next = or_drop!(self.suffix(input), found);
+            found = pushed(found, next)?;
         }
         Ok(found)
     }
@@ -324,8 +328,8 @@ impl<F: Fn(Global, &mut Cursor<'_>, usize, Wanted) -> Result<Found, Stop>> Gramm
         ensures keeps { Keeps input.old input.new }
     {
         let first = self.primary(input)?;
-        let rest = self.suffixes(input)?;
-        Ok(with_suffixes(self.alloc, first, rest)?)
+        let rest = or_drop!(self.suffixes(input), first);
+        with_suffixes(self.alloc, first, rest)
     }
 
     /// `(` type name `)`
@@ -337,7 +341,7 @@ impl<F: Fn(Global, &mut Cursor<'_>, usize, Wanted) -> Result<Found, Stop>> Gramm
     {
         let from = input.opening(self.more, Punct::LeftParen)?;
         let name = self.type_name(input)?;
-        let to = input.expect(Punct::RightParen)?;
+        let to = or_drop!(input.expect(Punct::RightParen), name);
         Ok(Prefix::Cast(from, name, to))
     }
 
@@ -364,9 +368,9 @@ impl<F: Fn(Global, &mut Cursor<'_>, usize, Wanted) -> Result<Found, Stop>> Gramm
             if !input.goes_prefix(tight) {
                 return Ok(found);
             }
-            let prefix = self.prefix(input)?;
-            tight = ties(&prefix);
-            found.push(prefix)?;
+            let next = or_drop!(self.prefix(input), found);
+            tight = ties(&next);
+            found = pushed(found, next)?;
         }
         Ok(found)
     }
@@ -380,8 +384,8 @@ impl<F: Fn(Global, &mut Cursor<'_>, usize, Wanted) -> Result<Found, Stop>> Gramm
     {
         let at = sizeof_word(input)?;
         let from = input.opening(self.more, Punct::LeftParen)?;
-        let name = Boxed::new(self.alloc, self.type_name(input)?)?;
-        let to = input.expect(Punct::RightParen)?;
+        let name = boxed(self.alloc, self.type_name(input)?)?;
+        let to = or_drop!(input.expect(Punct::RightParen), name);
         Ok(Expr::SizeofType(at, from, name, to))
     }
 
@@ -406,7 +410,7 @@ impl<F: Fn(Global, &mut Cursor<'_>, usize, Wanted) -> Result<Found, Stop>> Gramm
         ensures keeps { Keeps input.old input.new }
     {
         let run = self.run(input)?;
-        let operand = self.prefixed(input)?;
-        Ok(with_run(self.alloc, run, operand)?)
+        let operand = or_drop!(self.prefixed(input), run);
+        with_run(self.alloc, run, operand)
     }
 }

@@ -1,4 +1,5 @@
 //! Binary operators, conditional expressions, assignments and commas (C11 6.5.5 to 6.5.17).
+//! All levels of binary operators are one function of the level.
 
 ghost use Rattle.std.specs.Prelude.{◌≡◌};
 ghost use Rattle.c_grammar.specs.Read.Depth.{inside};
@@ -13,6 +14,7 @@ ghost use Rattle.c_expr_parser.specs.Nests.{Nests};
 use crate::cursor::Cursor;
 use crate::fault::Stop;
 use crate::grammar::Grammar;
+use crate::memory::pushed;
 use crate::nodes::{is_unary, with_branches, with_commas, with_operands, with_targets};
 use crate::operands::operator;
 use crate::production::{Production, production_of};
@@ -55,7 +57,7 @@ impl<F: Fn(Global, &mut Cursor<'_>, usize, Wanted) -> Result<Found, Stop>> Gramm
     {
         let mut tree = self.cast(input)?;
         for index in 0..count {
-            let rest = self.level_rest(input, index)?;
+            let rest = or_drop!(self.level_rest(input, index), tree);
             tree = with_operands(self.alloc, level_at(index), tree, rest)?;
         }
         Ok(tree)
@@ -73,7 +75,8 @@ impl<F: Fn(Global, &mut Cursor<'_>, usize, Wanted) -> Result<Found, Stop>> Gramm
             if !input.goes(production_of(level_at(index))) {
                 return Ok(found);
             }
-            found.push(self.level_next(input, index)?)?;
+            let next = or_drop!(self.level_next(input, index), found);
+            found = pushed(found, next)?;
         }
         Ok(found)
     }
@@ -109,8 +112,8 @@ impl<F: Fn(Global, &mut Cursor<'_>, usize, Wanted) -> Result<Found, Stop>> Gramm
     {
         let question = input.opening(self.more, Punct::Question)?;
         let gives = self.expr(input, Within::Comma)?;
-        let colon = input.expect(Punct::Colon)?;
-        let operand = self.binary(input)?;
+        let colon = or_drop!(input.expect(Punct::Colon), gives);
+        let operand = or_drop!(self.binary(input), gives);
         Ok(Branch {
             question,
             gives,
@@ -129,7 +132,8 @@ impl<F: Fn(Global, &mut Cursor<'_>, usize, Wanted) -> Result<Found, Stop>> Gramm
             if !input.goes(Production::Conditional) {
                 return Ok(found);
             }
-            found.push(self.branch(input)?)?;
+            let next = or_drop!(self.branch(input), found);
+            found = pushed(found, next)?;
         }
         Ok(found)
     }
@@ -142,8 +146,8 @@ impl<F: Fn(Global, &mut Cursor<'_>, usize, Wanted) -> Result<Found, Stop>> Gramm
         ensures keeps { Keeps input.old input.new }
     {
         let first = self.binary(input)?;
-        let rest = self.branches(input)?;
-        Ok(with_branches(self.alloc, first, rest)?)
+        let rest = or_drop!(self.branches(input), first);
+        with_branches(self.alloc, first, rest)
     }
 
     #[tactic(auto, unfolding(c_grammar::specs::Read::Expressions::after_operator))]
@@ -169,9 +173,9 @@ impl<F: Fn(Global, &mut Cursor<'_>, usize, Wanted) -> Result<Found, Stop>> Gramm
             if !(unary && input.goes(Production::Assignment)) {
                 return Ok(found);
             }
-            let next = self.target(input)?;
+            let next = or_drop!(self.target(input), found);
             unary = is_unary(&next.operand);
-            found.push(next)?;
+            found = pushed(found, next)?;
         }
         Ok(found)
     }
@@ -184,8 +188,8 @@ impl<F: Fn(Global, &mut Cursor<'_>, usize, Wanted) -> Result<Found, Stop>> Gramm
         ensures keeps { Keeps input.old input.new }
     {
         let first = self.conditional(input)?;
-        let rest = self.targets(input, &first)?;
-        Ok(with_targets(self.alloc, first, rest)?)
+        let rest = or_drop!(self.targets(input, &first), first);
+        with_targets(self.alloc, first, rest)
     }
 
     #[tactic(auto, unfolding(c_grammar::specs::Read::Expressions::after_operator))]
@@ -209,7 +213,8 @@ impl<F: Fn(Global, &mut Cursor<'_>, usize, Wanted) -> Result<Found, Stop>> Gramm
             if !input.goes(Production::Comma) {
                 return Ok(found);
             }
-            found.push(self.comma_next(input)?)?;
+            let next = or_drop!(self.comma_next(input), found);
+            found = pushed(found, next)?;
         }
         Ok(found)
     }
@@ -222,8 +227,8 @@ impl<F: Fn(Global, &mut Cursor<'_>, usize, Wanted) -> Result<Found, Stop>> Gramm
         ensures keeps { Keeps input.old input.new }
     {
         let first = self.assignment(input)?;
-        let rest = self.comma_rest(input)?;
-        Ok(with_commas(self.alloc, first, rest)?)
+        let rest = or_drop!(self.comma_rest(input), first);
+        with_commas(self.alloc, first, rest)
     }
 
     /// An expression of this production.

@@ -1,4 +1,5 @@
 //! The productions that go on with a punctuator behind an operand, by the numbers of the grammar.
+//! They tell a loop over operators whether it goes on.
 
 ghost use Rattle.std.specs.Prelude.{◌≡◌};
 ghost use Rattle.c_tree.specs.Levels.Productions.{joins, of_level};

@@ -1,6 +1,9 @@
 //! Specifiers (C11 6.7.1 to 6.7.3).
+//! Structs with their members and enums with their enumerators stand among them.
 
 ghost use Rattle.std.specs.Prelude.{◌≡◌, ◌||◌};
+ghost use Rattle.c_tree.specs.declared.token.Punct.TheVariants as p;
+ghost use Rattle.c_tree.specs.declared.specifier.Enumerator.TheVariants as enumerator;
 ghost use Rattle.c_grammar.specs.Input as state;
 ghost use Rattle.c_grammar.specs.Read.Depth.{inside};
 ghost use Rattle.c_grammar.specs.Read.Nodes as node;
@@ -9,9 +12,10 @@ ghost use Rattle.c_expr_parser.specs.Parts as parts;
 ghost use Rattle.c_expr_parser.specs.Reads.{Reads, Keeps};
 ghost use Rattle.c_expr_parser.specs.Nests.{Nests};
 
-use crate::cursor::{Cursor, copied};
+use crate::cursor::Cursor;
 use crate::fault::Stop;
 use crate::grammar::Grammar;
+use crate::memory::{copied, pushed};
 use crate::nodes::{is_type, name_type};
 use crate::wanted::{Found, Use, Wanted, Within};
 use crate::words::{is_enum, is_name, is_struct, storage_of, type_of};
@@ -147,17 +151,18 @@ impl<F: Fn(Global, &mut Cursor<'_>, usize, Wanted) -> Result<Found, Stop>> Gramm
         ensures reads { Reads (parts.member_declarators self.now.more (inside self.now.more) typed input.old) result input.new }
         ensures keeps { Keeps input.old input.new }
     {
-        let mut found = Items::new(self.alloc);
         let declarator = self.nested_declarator(input, Use::Declaring, typed)?;
-        found.push(MemberDeclarator {
+        let first = MemberDeclarator {
             comma: None,
             declarator,
-        })?;
+        };
+        let mut found = pushed(Items::new(self.alloc), first)?;
         for _turn in 0..input.left() {
             if !input.sees(Punct::Comma) {
                 return Ok(found);
             }
-            found.push(self.next_member_declarator(input, typed)?)?;
+            let next = or_drop!(self.next_member_declarator(input, typed), found);
+            found = pushed(found, next)?;
         }
         Ok(found)
     }
@@ -171,8 +176,8 @@ impl<F: Fn(Global, &mut Cursor<'_>, usize, Wanted) -> Result<Found, Stop>> Gramm
     {
         let specifiers = self.nested_specifiers(input, false)?;
         let typed = name_type(specifiers.as_slice());
-        let declarators = self.member_declarators(input, typed)?;
-        let semicolon = input.expect(Punct::Semicolon)?;
+        let declarators = or_drop!(self.member_declarators(input, typed), specifiers);
+        let semicolon = or_drop!(input.expect(Punct::Semicolon), specifiers, declarators);
         Ok(Member {
             specifiers,
             declarators,
@@ -186,14 +191,14 @@ impl<F: Fn(Global, &mut Cursor<'_>, usize, Wanted) -> Result<Found, Stop>> Gramm
         ensures reads { Reads (parts.members self.now.more (inside self.now.more) input.old) result input.new }
         ensures keeps { Keeps input.old input.new }
     {
-        let mut found = Items::new(self.alloc);
-        found.push(self.member(input)?)?;
+        let first = self.member(input)?;
+        let mut found = pushed(Items::new(self.alloc), first)?;
         for _turn in 0..input.left() {
             if !input.begins_type(input.kind()) {
                 return Ok(found);
             }
-            let next = self.member(input)?;
-            found.push(next)?;
+            let next = or_drop!(self.member(input), found);
+            found = pushed(found, next)?;
         }
         Ok(found)
     }
@@ -209,9 +214,9 @@ impl<F: Fn(Global, &mut Cursor<'_>, usize, Wanted) -> Result<Found, Stop>> Gramm
         ensures reads { Reads (spec.struct_body self.now.more (inside self.now.more) word tag input.old) result input.new }
         ensures keeps { Keeps input.old input.new }
     {
-        let opening = input.opening(self.more, Punct::LeftBrace)?;
-        let members = self.members(input)?;
-        let closing = input.expect(Punct::RightBrace)?;
+        let opening = or_drop!(input.opening(self.more, Punct::LeftBrace), tag);
+        let members = or_drop!(self.members(input), tag);
+        let closing = or_drop!(input.expect(Punct::RightBrace), tag, members);
         Ok(Specifier::Struct {
             word,
             tag,
@@ -249,9 +254,25 @@ impl<F: Fn(Global, &mut Cursor<'_>, usize, Wanted) -> Result<Found, Stop>> Gramm
         ensures reads { Reads (spec.enumerator_value self.now.more (inside self.now.more) comma id input.old) result input.new }
         ensures keeps { Keeps input.old input.new }
     {
-        let equals = input.expect(Punct::Assign)?;
-        let value = self.expr(input, Within::Conditional)?;
+        let equals = or_drop!(input.expect(Punct::Assign), id);
+        let value = or_drop!(self.expr(input, Within::Conditional), id);
         Ok(Enumerator::Valued(comma, id, equals, value))
+    }
+
+    fn enumerator_behind(
+        &self,
+        input: &mut Cursor<'_>,
+        comma: Option<Pos>,
+        id: Identifier,
+    ) -> Result<Enumerator, Stop>
+        requires { Nests self.now.more (F.pre self.now.inside) (F.post self.now.inside) }
+        ensures reads { Reads (state.choose (state.sees p.Assign) (spec.enumerator_value self.now.more (inside self.now.more) comma id) (state.pure (enumerator.Plain comma id)) input.old) result input.new }
+        ensures keeps { Keeps input.old input.new }
+    {
+        if input.sees(Punct::Assign) {
+            return self.enumerator_value(input, comma, id);
+        }
+        Ok(Enumerator::Plain(comma, id))
     }
 
     /// A name, and its value where one stands; the name is visible from the end (C11 6.7.2.2).
@@ -262,13 +283,12 @@ impl<F: Fn(Global, &mut Cursor<'_>, usize, Wanted) -> Result<Found, Stop>> Gramm
         ensures keeps { Keeps input.old input.new }
     {
         let id = input.identifier(self.alloc)?;
-        let name = copied(self.alloc, &id.text)?;
-        let enumerator = if input.sees(Punct::Assign) {
-            self.enumerator_value(input, comma, id)?
-        } else {
-            Enumerator::Plain(comma, id)
+        let Ok(name) = copied(self.alloc, &id.text) else {
+            drop(id);
+            return Err(Stop::Memory);
         };
-        input.declare(name, false)?;
+        let enumerator = or_drop!(self.enumerator_behind(input, comma, id), name);
+        or_drop!(input.declare(name, false), enumerator);
         Ok(enumerator)
     }
 
@@ -288,13 +308,14 @@ impl<F: Fn(Global, &mut Cursor<'_>, usize, Wanted) -> Result<Found, Stop>> Gramm
         ensures reads { Reads (parts.enumerators self.now.more (inside self.now.more) input.old) result input.new }
         ensures keeps { Keeps input.old input.new }
     {
-        let mut found = Items::new(self.alloc);
-        found.push(self.enumerator(input, None)?)?;
+        let first = self.enumerator(input, None)?;
+        let mut found = pushed(Items::new(self.alloc), first)?;
         for _turn in 0..input.left() {
             if !goes_enumerator(input) {
                 return Ok(found);
             }
-            found.push(self.next_enumerator(input)?)?;
+            let next = or_drop!(self.next_enumerator(input), found);
+            found = pushed(found, next)?;
         }
         Ok(found)
     }
@@ -310,10 +331,10 @@ impl<F: Fn(Global, &mut Cursor<'_>, usize, Wanted) -> Result<Found, Stop>> Gramm
         ensures reads { Reads (spec.enum_body self.now.more (inside self.now.more) word tag input.old) result input.new }
         ensures keeps { Keeps input.old input.new }
     {
-        let opening = input.opening(self.more, Punct::LeftBrace)?;
-        let enumerators = self.enumerators(input)?;
-        let comma = last_comma(input)?;
-        let closing = input.expect(Punct::RightBrace)?;
+        let opening = or_drop!(input.opening(self.more, Punct::LeftBrace), tag);
+        let enumerators = or_drop!(self.enumerators(input), tag);
+        let comma = or_drop!(last_comma(input), tag, enumerators);
+        let closing = or_drop!(input.expect(Punct::RightBrace), tag, enumerators);
         Ok(Specifier::Enum {
             word,
             tag,
@@ -373,17 +394,16 @@ impl<F: Fn(Global, &mut Cursor<'_>, usize, Wanted) -> Result<Found, Stop>> Gramm
         ensures reads { Reads (spec.specifiers self.now.more (inside self.now.more) with_storage input.old) result input.new }
         ensures keeps { Keeps input.old input.new }
     {
-        let mut found = Items::new(self.alloc);
         let first = self.specifier(input, with_storage, false)?;
         let mut typed = is_type(&first);
-        found.push(first)?;
+        let mut found = pushed(Items::new(self.alloc), first)?;
         for _turn in 0..input.left() {
             if !input.begins_specifier(with_storage, typed, input.kind()) {
                 return Ok(found);
             }
-            let next = self.specifier(input, with_storage, typed)?;
+            let next = or_drop!(self.specifier(input, with_storage, typed), found);
             typed = types(typed, &next);
-            found.push(next)?;
+            found = pushed(found, next)?;
         }
         Ok(found)
     }

@@ -1,4 +1,5 @@
 //! What a call inside brackets is asked for, and what it gives.
+//! One function value reads all that stands inside brackets, so what it reads is told by a value.
 
 use c_tree::{Declarator, Expr, Specifiers};
 

@@ -1,4 +1,5 @@
 //! What the kinds of tokens stand for.
+//! Tests of one token, and the specifiers that keywords are.
 
 ghost use Rattle.std.specs.Prelude.{◌≡◌};
 ghost use Rattle.std.specs.Option.{option_copied};

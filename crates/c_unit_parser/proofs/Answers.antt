@@ -1,4 +1,5 @@
 -- The outcome of a parser with places, from that of its first part.
+-- A parser that stops in its first part stops there, for the same reason.
 use Rattle.std.specs.Prelude.{◌≡◌, Ok, Err, refl}
 use Rattle.c_tree.specs.declared.token.Pos.{Pos}
 use Rattle.c_grammar.specs.Input.{Reason, Tokens, Outcome, Parser, and_then}

@@ -1,8 +1,10 @@
 -- What a call of the crate below reads, from what it ensures.
+-- The call ensures the tree of the longest front, and the grammar reads just that front.
 use Rattle.std.specs.Prelude.{◌≡◌, ℕ, ◌+◌, ◌-◌, ◌≤◌, ◌++◌, length, drop, Ok}
 use Rattle.std.proofs.Common.{ap, sym, ◌∙◌, arith, length-append}
 use Rattle.std.proofs.Math.Seq.{drop-append_seam}
 use Rattle.std.proofs.lemmas.List.{drop-drop, length-drop}
+use Rattle.c_tree.specs.Levelled.{nesting_limit}
 use Rattle.c_tree.specs.Levels.Names.{Names}
 use Rattle.c_grammar.specs.Input.{Tokens, Outcome, Parser}
 use Rattle.c_grammar.specs.Fronts.{Trees, OkAtFront}
@@ -27,11 +29,11 @@ pub record Went {A : Type 0} (outcome : Outcome A) (old new : Names) (tokens : T
   pub reads : outcome ≡ Ok (tree, (new, drop behind tokens))
   pub within : behind ≤ length tokens
 
-module _ {A : Type 0} (t : Trees A) (reads : ℕ → Parser A) (at_front : (more : ℕ) → OkAtFront t more (reads more)) (old new : Names) (tokens : Tokens) (at depth more : ℕ) (fits : at ≤ length tokens) (small : more ≤ call.deepest) (is : depth ≡ call.deepest - more) where
+module _ {A : Type 0} (t : Trees A) (reads : ℕ → Parser A) (at_front : (more : ℕ) → OkAtFront t more (reads more)) (old new : Names) (tokens : Tokens) (at depth more : ℕ) (fits : at ≤ length tokens) (small : more ≤ nesting_limit) (is : depth ≡ nesting_limit - more) where
   pub went : (tree : A) (behind : ℕ) → call.IsRead t old (drop at tokens) depth tree → behind ≡ at + length (t.spelling tree) → new ≡ old ++ t.declares old tree → Went (reads more (old, drop at tokens)) old new tokens tree behind
   went tree behind r place names =
       let b = behind_front tokens (t.spelling tree) r.rest at fits r.front.whole in
-      let n : depth + t.nesting tree ≤ call.deepest = r.nested in
+      let n : depth + t.nesting tree ≤ nesting_limit = r.nested in
       record {
         reads = (at_front more).comes old (drop at tokens) r.rest tree r.levelled (omega arith) r.front
             ∙ ap (λ (l : Names). read_of tree l r.rest) (sym names) ∙ ap (λ (l : Tokens). read_of tree new l) (sym b.left ∙ ap (λ (n : ℕ). drop n tokens) (sym place));

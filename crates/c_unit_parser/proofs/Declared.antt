@@ -1,4 +1,5 @@
 -- What a parameter declares.
+-- Its specifiers and its declarator declare their names, and then its own name stands behind them.
 use Rattle.std.specs.Prelude.{◌≡◌, ℕ, Bool, List, ◌++◌, Option, map}
 use Rattle.std.proofs.Common.{ap, ◌∙◌}
 use Rattle.c_tree.specs.declared.specifier.Specifier.{Specifier}

@@ -1,4 +1,5 @@
 -- What is read inside a bracket, by how many could be opened with that one.
+-- The cursor counts the brackets that may be opened behind one, the grammar those with it.
 use Rattle.std.specs.Prelude.{◌≡◌, ℕ, suc, ◌+◌, ◌-◌, ◌<◌, Err}
 use Rattle.std.proofs.Common.{ap, arith, add-one}
 use Rattle.c_tree.specs.Levels.Productions.{comma}

@@ -1,3 +1,5 @@
+-- The lemmas of this crate.
+-- What lists, marks and names have in common with the parser of expressions stands there.
 pub mod Places
 pub mod Answers
 pub mod Turns

@@ -1,4 +1,5 @@
 -- What stands next to the name of a declarator, from what its parts tell.
+-- What the middle tells goes before, then the suffixes, then the pointers.
 use Rattle.std.specs.Prelude.{◌≡◌, List, ◌++◌, map}
 use Rattle.std.proofs.Common.{ap, sym, ◌∙◌, subst}
 use Rattle.c_tree.specs.declared.declarator.Declarator.{Declarator, out-Declarator}

@@ -1,4 +1,5 @@
 -- The tokens from a place on.
+-- One token is gone behind, or none where the tokens end.
 use Rattle.std.specs.Prelude.{◌≡◌, ℕ, ◌+◌, ◌≤◌, [], ◌∷◌, length, drop, refl}
 use Rattle.std.proofs.Common.{ap, sym, ◌∙◌}
 use Rattle.std.proofs.lemmas.List.{drop-drop, drop_all}

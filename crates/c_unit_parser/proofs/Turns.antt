@@ -1,4 +1,5 @@
 -- A list that is read item by item, beside a loop that counts up.
+-- It adds to the same lemmas of the parser below where the source ends.
 use Rattle.std.proofs.Common.{◌≡◌, ◌≢◌, ℕ, suc, ◌+◌, ◌-◌, ◌<◌, Bool, true, List, [], ◌∷◌, ◌++◌, Ok, Err, ap, ◌∙◌, subst}
 use Rattle.c_tree.specs.declared.token.Pos.{Pos}
 use Rattle.c_grammar.specs.Input.{State, Outcome, Parser, loop}

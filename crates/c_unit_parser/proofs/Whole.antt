@@ -1,4 +1,5 @@
 -- From what is read of all the tokens to what `parse` ensures.
+-- The laws of the grammar tell that the unit is levelled, spelt by the tokens, and the only one.
 use Rattle.std.specs.Prelude.{◌≡◌, ◌≢◌, List, [], Result, Ok, Err}
 use Rattle.std.proofs.Common.{ap, sym, ◌∙◌}
 use Rattle.c_tree.specs.declared.token.Pos.{Pos}

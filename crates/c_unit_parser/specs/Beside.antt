@@ -1,4 +1,5 @@
 -- What stands next to the name of a declarator, as the grammar tells it.
+-- A definition takes the parameters of the list that stands there.
 use Rattle.std.specs.Prelude.{◌≡◌, List, map}
 use Rattle.c_tree.specs.declared.declarator.Parameter.{Parameter}
 use Rattle.c_tree.specs.Levels.Names.{Names, in_row}

@@ -1,4 +1,5 @@
 -- What a tree declares for what stands behind it, whatever names are visible where it stands.
+-- The walk over a parameter list puts just these names behind the others.
 use Rattle.std.specs.Prelude.{◌≡◌, ◌++◌}
 use Rattle.c_tree.specs.Levels.Names.{Names, With}
 

@@ -1,4 +1,5 @@
 -- The kinds of statements and of items of a block, as the grammar names them.
+-- The code has enums of its own for them.
 use Rattle.c_unit_grammar.specs.Read.Words as spec
 use Rattle.c_unit_parser.specs.declared.words.StatementKind.{StatementKind}
 use Rattle.c_unit_parser.specs.declared.words.StatementKind.TheVariants as statement

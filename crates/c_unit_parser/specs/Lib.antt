@@ -1,3 +1,5 @@
+-- What the contracts of this crate cite.
+-- Units has what `parse` ensures, the others what the productions do.
 pub mod Reads
 pub mod Kinds
 pub mod Wanted

@@ -1,4 +1,5 @@
 -- A function value that reads what is nested by one more, where so many could be nested with that one.
+-- It is what each production asks of the value that it is given, and what the one recursive function is.
 use Rattle.std.specs.Prelude.{◌≡◌, ℕ, ◌≤◌, Result, OnOk}
 use Rattle.std.specs.declared.alloc.Global.{Global}
 use denote.Ref.{MutBor}

@@ -1,4 +1,5 @@
 -- Parts of the productions: the lists that a function of the parser reads whole.
+-- The first item is read with the others, or is given.
 use Rattle.std.specs.Prelude.{ℕ, Bool, true, List}
 use Rattle.c_tree.specs.declared.token.Punct.TheVariants as p
 use Rattle.c_tree.specs.declared.specifier.Specifier.{Specifier}

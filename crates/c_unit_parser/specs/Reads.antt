@@ -1,4 +1,5 @@
 -- What a cursor holds, and what a function that reads from one ensures.
+-- It computes a parser of the grammar on lists, and a fault has the place where that stops.
 use Rattle.std.specs.Prelude.{◌≡◌, ◌≢◌, Result, Ok, Err}
 use Rattle.c_tree.specs.declared.token.Pos.{Pos}
 use Rattle.c_grammar.specs.Input.{State, Fault, Outcome}

@@ -1,4 +1,5 @@
 -- What `parse` ensures, by the units of the grammar.
+-- The unit is one of the grammar, its spelling is the tokens, and no other one has it.
 use Rattle.std.specs.Prelude.{◌≡◌, ◌≢◌, Result, Ok, Err, IfOk, IfErr}
 use Rattle.c_tree.specs.declared.token.Pos.{Pos}
 use Rattle.c_tree.specs.declared.unit.Unit as tree

@@ -1,4 +1,5 @@
 -- What is read that is nested by one more, by what is wanted there.
+-- It says of the function value, in one parser, what the productions of the grammar say apart.
 use Rattle.std.specs.Prelude.{ℕ}
 use Rattle.c_grammar.specs.Input.{Parser, ◌>>=◌, pure}
 use Rattle.c_unit_grammar.specs.Read.Initialisers.{inside_initialiser}

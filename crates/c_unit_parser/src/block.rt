@@ -1,4 +1,5 @@
 //! Blocks and their items (C11 6.8.2, 6.8.1).
+//! A block is a scope; labels stand in that of a `switch` alone.
 
 ghost use Rattle.std.specs.Prelude.{◌≡◌, OnOk};
 ghost use Rattle.c_grammar.specs.Input.{enclosed};
@@ -11,10 +12,10 @@ ghost use Rattle.c_unit_parser.specs.Parts as parts;
 
 use crate::cursor::Cursor;
 use crate::grammar::Grammar;
-use crate::memory::push;
+use crate::memory::pushed;
 use crate::wanted::{Found, Wanted};
 use crate::words::ItemKind;
-use c_expr_parser::ParseFault;
+use c_expr_parser::{ParseFault, or_drop};
 use c_tree::{Block, BlockItem, Keyword, Punct, Stmt};
 use std::alloc::Global;
 use word_ops::Items;
@@ -39,7 +40,8 @@ impl<F: Fn(Global, &mut Cursor<'_>, u32, Wanted) -> Result<Found, ParseFault>> G
             if !goes_item(input) {
                 return Ok(found);
             }
-            push(&mut found, self.nested_item(input, labels)?)?;
+            let next = or_drop!(self.nested_item(input, labels), found);
+            found = pushed(found, next)?;
         }
         Ok(found)
     }
@@ -54,7 +56,7 @@ impl<F: Fn(Global, &mut Cursor<'_>, u32, Wanted) -> Result<Found, ParseFault>> G
     {
         let opening = input.opening(self.more, Punct::LeftBrace)?;
         let items = self.items(input, labels)?;
-        let closing = input.expect(Punct::RightBrace)?;
+        let closing = or_drop!(input.expect(Punct::RightBrace), items);
         Ok(Block {
             opening,
             items,
@@ -103,7 +105,7 @@ impl<F: Fn(Global, &mut Cursor<'_>, u32, Wanted) -> Result<Found, ParseFault>> G
     {
         let word = input.expect_word(Keyword::Case)?;
         let value = input.conditional(self.alloc, self.more)?;
-        let colon = input.expect(Punct::Colon)?;
+        let colon = or_drop!(input.expect(Punct::Colon), value);
         Ok(BlockItem::Case(word, value, colon))
     }
 

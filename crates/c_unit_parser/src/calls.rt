@@ -1,4 +1,5 @@
 //! The public call.
+//! It reads declarations and definitions to the end of the tokens.
 
 ghost use Rattle.c_unit_parser.specs.Units as call;
 

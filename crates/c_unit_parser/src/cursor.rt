@@ -1,4 +1,5 @@
 //! The tokens that are left, and the names that are visible.
+//! It tells what comes next, takes single tokens, calls the parser of expressions, and opens and leaves scopes.
 
 ghost use Rattle.std.specs.Prelude.{◌≡◌, ℕ, ◌≤◌, true, false, length, MatchResult, OnOk, [], ◌∷◌};
 ghost use Rattle.std.specs.Option.{option_copied};
@@ -18,11 +19,8 @@ ghost use Rattle.c_unit_parser.specs.Beside.{listed};
 ghost use Rattle.c_unit_parser.specs.Reads.{Reads, placed};
 
 use crate::declares::{declare, parameters};
-use crate::words::{
-    ItemKind, begins_specifiers, is_mark, is_word, label_kind, mark_begins_statement,
-    word_begins_statement,
-};
-use c_expr_parser::{Names, ParseFault, Use};
+use crate::words::{ItemKind, is_word, label_kind, mark_begins_statement, word_begins_statement};
+use c_expr_parser::{Names, ParseFault, Use, is_mark, word_begins};
 use c_tree::{
     Declarator, Expr, Keyword, Parameter, Pos, Punct, Specifiers, Token, TokenKind, Tokens,
 };
@@ -156,7 +154,7 @@ impl<'a> Cursor<'a> {
         ensures { result ≡ inner.begins_specifier true false self.now.state.0 (spec.peek self.now.state.1) }
     {
         match self.kind() {
-            Some(TokenKind::Keyword(word)) => begins_specifiers(*word),
+            Some(TokenKind::Keyword(word)) => word_begins(true, *word),
             Some(TokenKind::Name(text)) => self.is_typedef(text),
             _ => false,
         }

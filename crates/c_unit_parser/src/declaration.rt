@@ -1,4 +1,5 @@
 //! Declarations (C11 6.7).
+//! Each declarator is visible from its end, its initialiser included.
 
 ghost use Rattle.std.specs.Prelude.{◌≡◌, OnOk};
 ghost use Rattle.c_tree.specs.Levels.Trees.{declarator_level};
@@ -10,10 +11,9 @@ ghost use Rattle.c_unit_parser.specs.Parts as parts;
 
 use crate::cursor::Cursor;
 use crate::grammar::Grammar;
-use crate::memory::push;
-use crate::nodes::{declared_name, have_typedef, name_type};
+use crate::memory::pushed;
 use crate::wanted::{Found, Wanted};
-use c_expr_parser::ParseFault;
+use c_expr_parser::{ParseFault, declared_name, have_typedef, name_type, or_drop};
 use c_tree::{Declaration, Declarator, InitDeclarator, Punct, Specifier, Start};
 use std::alloc::Global;
 use word_ops::Items;
@@ -33,7 +33,8 @@ impl<F: Fn(Global, &mut Cursor<'_>, u32, Wanted) -> Result<Found, ParseFault>> G
     {
         let tree = input.declarator(self.alloc, self.more, name_type(specifiers))?;
         if let Some(name) = declared_name(&tree) {
-            input.declare(self.alloc, name, have_typedef(specifiers))?;
+            let is_typedef = have_typedef(specifiers);
+            or_drop!(input.declare(self.alloc, name, is_typedef), tree);
         }
         Ok(tree)
     }
@@ -75,7 +76,7 @@ impl<F: Fn(Global, &mut Cursor<'_>, u32, Wanted) -> Result<Found, ParseFault>> G
         ensures ends { input.new.end ≡ input.old.end }
     {
         let declarator = self.named(input, specifiers)?;
-        let start = self.start(input)?;
+        let start = or_drop!(self.start(input), declarator);
         Ok(InitDeclarator {
             comma: None,
             declarator,
@@ -96,7 +97,7 @@ impl<F: Fn(Global, &mut Cursor<'_>, u32, Wanted) -> Result<Found, ParseFault>> G
     {
         let comma = Some(input.expect(Punct::Comma)?);
         let declarator = self.named(input, specifiers)?;
-        let start = self.start(input)?;
+        let start = or_drop!(self.start(input), declarator);
         Ok(InitDeclarator {
             comma,
             declarator,
@@ -117,13 +118,13 @@ impl<F: Fn(Global, &mut Cursor<'_>, u32, Wanted) -> Result<Found, ParseFault>> G
         ensures keeps { OnOk result (Keeps input.old.state input.new.state) }
         ensures ends { input.new.end ≡ input.old.end }
     {
-        let mut found = Items::new(self.alloc);
-        push(&mut found, first)?;
+        let mut found = pushed(Items::new(self.alloc), first)?;
         for _turn in 0..input.left() {
             if !input.sees(Punct::Comma) {
                 return Ok(found);
             }
-            push(&mut found, self.next_declarator(input, specifiers)?)?;
+            let next = or_drop!(self.next_declarator(input, specifiers), found);
+            found = pushed(found, next)?;
         }
         Ok(found)
     }
@@ -155,8 +156,8 @@ impl<F: Fn(Global, &mut Cursor<'_>, u32, Wanted) -> Result<Found, ParseFault>> G
         ensures ends { input.new.end ≡ input.old.end }
     {
         let specifiers = input.specifiers(self.alloc, self.more)?;
-        let declarators = self.declarators(input, specifiers.as_slice())?;
-        let semicolon = input.expect(Punct::Semicolon)?;
+        let declarators = or_drop!(self.declarators(input, specifiers.as_slice()), specifiers);
+        let semicolon = or_drop!(input.expect(Punct::Semicolon), specifiers, declarators);
         Ok(Declaration {
             specifiers,
             declarators,

@@ -8,9 +8,7 @@ ghost use Rattle.c_tree.specs.Levels.Names.{in_row};
 ghost use Rattle.c_tree.specs.Levels.Trees as level;
 ghost use Rattle.c_unit_parser.specs.Declares.{Puts};
 
-use crate::memory::copied;
-use crate::nodes::{declared_name, have_typedef};
-use c_expr_parser::Names;
+use c_expr_parser::{Names, copied, declared_name, have_typedef};
 use c_tree::{
     Branch, Declarator, DeclaratorSuffix, Direct, Enumerator, Expr, Member, MemberDeclarator, Next,
     Parameter, Prefix, Specifier, Suffix, TypeName,

@@ -1,4 +1,5 @@
 //! The productions, and what they read that is nested by one more.
+//! It comes from the function value `inside`, as one of four kinds of trees.
 
 ghost use Rattle.std.specs.Prelude.{◌≡◌, OnOk};
 ghost use Rattle.c_expr_parser.specs.Reads.{Keeps};

@@ -1,4 +1,5 @@
 //! Initialisers (C11 6.7.9).
+//! An assignment expression, or initialisers in braces, which nest.
 
 ghost use Rattle.std.specs.Prelude.{◌≡◌, OnOk};
 ghost use Rattle.c_grammar.specs.Read.Specifiers as specifiers;
@@ -10,10 +11,9 @@ ghost use Rattle.c_unit_parser.specs.Parts as parts;
 
 use crate::cursor::Cursor;
 use crate::grammar::Grammar;
-use crate::memory::push;
+use crate::memory::pushed;
 use crate::wanted::{Found, Wanted};
-use crate::words::is_mark;
-use c_expr_parser::ParseFault;
+use c_expr_parser::{ParseFault, is_mark, or_drop};
 use c_tree::{Initialiser, InitialiserItem, Pos, Punct};
 use std::alloc::Global;
 use word_ops::Items;
@@ -78,13 +78,14 @@ impl<F: Fn(Global, &mut Cursor<'_>, u32, Wanted) -> Result<Found, ParseFault>> G
         ensures keeps { OnOk result (Keeps input.old.state input.new.state) }
         ensures ends { input.new.end ≡ input.old.end }
     {
-        let mut found = Items::new(self.alloc);
-        push(&mut found, self.first_initialiser(input)?)?;
+        let first = self.first_initialiser(input)?;
+        let mut found = pushed(Items::new(self.alloc), first)?;
         for _turn in 0..input.left() {
             if !goes_initialiser(input) {
                 return Ok(found);
             }
-            push(&mut found, self.next_initialiser(input)?)?;
+            let next = or_drop!(self.next_initialiser(input), found);
+            found = pushed(found, next)?;
         }
         Ok(found)
     }
@@ -98,8 +99,8 @@ impl<F: Fn(Global, &mut Cursor<'_>, u32, Wanted) -> Result<Found, ParseFault>> G
     {
         let opening = input.opening(self.more, Punct::LeftBrace)?;
         let items = self.initialisers(input)?;
-        let comma = last_comma(input)?;
-        let closing = input.expect(Punct::RightBrace)?;
+        let comma = or_drop!(last_comma(input), items);
+        let closing = or_drop!(input.expect(Punct::RightBrace), items);
         Ok(Initialiser::List {
             opening,
             items,

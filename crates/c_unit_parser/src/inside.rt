@@ -1,4 +1,5 @@
 //! The recursion on what may still be nested.
+//! It makes the grammar of what may still be nested and hands itself to it.
 
 ghost use Rattle.std.specs.Prelude.{◌≡◌, suc, ◌≤◌, OnOk};
 ghost use Rattle.c_expr_parser.specs.Reads.{Keeps};

@@ -1,19 +1,24 @@
-//! Storing trees, where want of memory is a fault of the parser.
+//! Storing trees, where want of memory is a fault of the parser: each call takes what it stores, and so leaves a caller
+//! nothing to let go of.
 
-ghost use Rattle.std.specs.Prelude.{◌≡◌, [], ◌∷◌, ◌++◌, MatchResult, IfOk};
+ghost use Rattle.std.specs.Prelude.{◌≡◌, [], ◌∷◌, ◌++◌, MatchResult};
 ghost use Rattle.c_expr_parser.specs.declared.fault.ParseFault.TheVariants as fault;
 
 use c_expr_parser::ParseFault;
 use std::alloc::Global;
-use word_ops::{Boxed, Items, Memory, Text};
+use word_ops::{Boxed, Items};
 
-/// Puts an item behind a list.
-pub fn push<T: Drop>(list: &mut Items<T>, item: T) -> Result<(), ParseFault>
-    ensures { MatchResult result (λ _. list.new ≡ list.old ++ item ∷ []) (λ e. e ≡ fault.Memory) }
+/// The list with an item more.
+pub fn pushed<T: Drop>(list: Items<T>, item: T) -> Result<Items<T>, ParseFault>
+    ensures { MatchResult result (λ all. all ≡ list ++ item ∷ []) (λ e. e ≡ fault.Memory) }
 {
+    let mut list = list;
     match list.push(item) {
-        Ok(()) => Ok(()),
-        Err(_) => Err(ParseFault::Memory),
+        Ok(()) => Ok(list),
+        Err(_) => {
+            drop(list);
+            Err(ParseFault::Memory)
+        }
     }
 }
 
@@ -25,11 +30,4 @@ pub fn boxed<T: Drop>(alloc: Global, tree: T) -> Result<Boxed<T>, ParseFault>
         Ok(stored) => Ok(stored),
         Err(_) => Err(ParseFault::Memory),
     }
-}
-
-/// A text of the same bytes.
-pub fn copied(alloc: Global, text: &Text) -> Result<Text, Memory>
-    ensures { IfOk result (λ copy. copy ≡ text.now) }
-{
-    Ok(Text::from_vec(Vec::from_slice(alloc, text.as_slice())?))
 }

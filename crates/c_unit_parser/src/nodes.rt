@@ -1,84 +1,13 @@
-//! What specifiers and declarators tell.
+//! What stands next to the name of a declarator.
+//! A parameter list there makes what stands before a `{` a definition.
 
 ghost use Rattle.std.specs.Prelude.{◌≡◌, map};
-ghost use Rattle.std.specs.Option.{option_copied};
 ghost use Rattle.c_tree.specs.Levels.Names.{Names, in_row};
 ghost use Rattle.c_tree.specs.Levels.Facts.{nearest, Alone};
 ghost use Rattle.c_tree.specs.Levels.Trees.{declarator_level, direct_level, declarator_suffix_level};
-ghost use Rattle.c_grammar.specs.Read.Nodes as spec;
 ghost use Rattle.c_unit_parser.specs.Beside.{Tells};
 
-use c_tree::{Declarator, DeclaratorSuffix, Direct, Parameter, Pointer, Specifier, Storage};
-use word_ops::Text;
-
-#[tactic(auto, unfolding(c_grammar::specs::Read::Nodes::is_type))]
-fn is_type(specifier: &Specifier) -> bool
-    ensures { result ≡ spec.is_type specifier.now }
-{
-    match specifier {
-        Specifier::Storage(_, _) | Specifier::Const(_) => false,
-        Specifier::Word(_, _)
-        | Specifier::StructTag(_, _)
-        | Specifier::Struct { .. }
-        | Specifier::EnumTag(_, _)
-        | Specifier::Enum { .. }
-        | Specifier::TypedefName(_) => true,
-    }
-}
-
-#[tactic(auto, unfolding(c_grammar::specs::Read::Nodes::is_typedef_word))]
-fn is_typedef_word(specifier: &Specifier) -> bool
-    ensures { result ≡ spec.is_typedef_word specifier.now }
-{
-    match specifier {
-        Specifier::Storage(storage, _) => match storage {
-            Storage::Typedef => true,
-            Storage::Extern | Storage::Static | Storage::Auto | Storage::Register => false,
-        },
-        Specifier::Const(_)
-        | Specifier::Word(_, _)
-        | Specifier::StructTag(_, _)
-        | Specifier::Struct { .. }
-        | Specifier::EnumTag(_, _)
-        | Specifier::Enum { .. }
-        | Specifier::TypedefName(_) => false,
-    }
-}
-
-/// One of them names a type.
-pub fn name_type(specifiers: &[Specifier]) -> bool
-    ensures { result ≡ spec.name_type specifiers.now }
-{
-    for specifier in specifiers {
-        if is_type(specifier) {
-            return true;
-        }
-    }
-    false
-}
-
-/// `typedef` is among them.
-pub fn have_typedef(specifiers: &[Specifier]) -> bool
-    ensures { result ≡ spec.have_typedef specifiers.now }
-{
-    for specifier in specifiers {
-        if is_typedef_word(specifier) {
-            return true;
-        }
-    }
-    false
-}
-
-/// The name that a declarator declares.
-pub fn declared_name(tree: &Declarator) -> Option<&Text>
-    ensures { (names : Names) → option_copied result ≡ (declarator_level tree.now names).0.name }
-{
-    match &tree.direct {
-        Direct::Nothing => None,
-        Direct::Named(id) => Some(&id.text),
-        Direct::Grouped(_, inner, _) => declared_name(inner.get()),
-    }
-}
+use c_tree::{Declarator, DeclaratorSuffix, Direct, Parameter, Pointer};
 
 /// What stands next to the name of a declarator.
 #[derive(Clone, Copy)]

@@ -1,4 +1,5 @@
 //! Statements (C11 6.8).
+//! Each body is a scope, and each `else` goes to the nearest `if` that can take it.
 
 ghost use Rattle.std.specs.Prelude.{◌≡◌, ◌≤◌, OnOk};
 ghost use Rattle.c_tree.specs.declared.token.Punct.TheVariants as p;
@@ -14,10 +15,10 @@ ghost use Rattle.c_unit_parser.specs.Parts as parts;
 
 use crate::cursor::Cursor;
 use crate::grammar::Grammar;
-use crate::memory::{boxed, push};
+use crate::memory::{boxed, pushed};
 use crate::wanted::{Found, Wanted};
 use crate::words::{StatementKind, statement_kind};
-use c_expr_parser::ParseFault;
+use c_expr_parser::{ParseFault, or_drop};
 use c_tree::{Condition, Else, Expr, ForControl, ForHead, IfHead, Keyword, Pos, Punct, Stmt};
 use std::alloc::Global;
 use word_ops::{Boxed, Items};
@@ -39,7 +40,7 @@ fn value_until(
         return Ok((None, input.expect(op)?));
     }
     let value = input.nested_expression(alloc, more)?;
-    let at = input.expect(op)?;
+    let at = or_drop!(input.expect(op), value);
     Ok((Some(value), at))
 }
 
@@ -61,7 +62,7 @@ impl<F: Fn(Global, &mut Cursor<'_>, u32, Wanted) -> Result<Found, ParseFault>> G
     {
         let opening = input.opening(self.more, Punct::LeftParen)?;
         let value = input.nested_expression(self.alloc, self.more)?;
-        let closing = input.expect(Punct::RightParen)?;
+        let closing = or_drop!(input.expect(Punct::RightParen), value);
         Ok(Condition {
             opening,
             value,
@@ -93,8 +94,15 @@ impl<F: Fn(Global, &mut Cursor<'_>, u32, Wanted) -> Result<Found, ParseFault>> G
     {
         let opening = input.opening(self.more, Punct::LeftParen)?;
         let head = self.for_head(input)?;
-        let (condition, semicolon) = value_until(self.alloc, input, self.more, Punct::Semicolon)?;
-        let (step, closing) = value_until(self.alloc, input, self.more, Punct::RightParen)?;
+        let (condition, semicolon) = or_drop!(
+            value_until(self.alloc, input, self.more, Punct::Semicolon),
+            head
+        );
+        let (step, closing) = or_drop!(
+            value_until(self.alloc, input, self.more, Punct::RightParen),
+            head,
+            condition
+        );
         Ok(ForControl {
             opening,
             head,
@@ -187,7 +195,7 @@ impl<F: Fn(Global, &mut Cursor<'_>, u32, Wanted) -> Result<Found, ParseFault>> G
     {
         let if_word = input.expect_word(Keyword::If)?;
         let condition = self.condition(input)?;
-        let body = self.body(input)?.into_inner();
+        let body = or_drop!(self.body(input), condition).into_inner();
         let head = Some(IfHead {
             word: if_word,
             condition,
@@ -237,9 +245,9 @@ impl<F: Fn(Global, &mut Cursor<'_>, u32, Wanted) -> Result<Found, ParseFault>> G
             if !goes_else(input, may) {
                 return Ok(found);
             }
-            let next = self.one_else(input)?;
+            let next = or_drop!(self.one_else(input), found);
             may = next.head.is_some();
-            push(&mut found, next)?;
+            found = pushed(found, next)?;
         }
         Ok(found)
     }
@@ -254,8 +262,8 @@ impl<F: Fn(Global, &mut Cursor<'_>, u32, Wanted) -> Result<Found, ParseFault>> G
         let scope = input.mark();
         let word = input.expect_word(Keyword::If)?;
         let condition = self.condition(input)?;
-        let body = self.body(input)?;
-        let others = self.others(input)?;
+        let body = or_drop!(self.body(input), condition);
+        let others = or_drop!(self.others(input), condition, body);
         input.leave(scope);
         Ok(Stmt::If {
             word,
@@ -275,7 +283,7 @@ impl<F: Fn(Global, &mut Cursor<'_>, u32, Wanted) -> Result<Found, ParseFault>> G
         let scope = input.mark();
         let word = input.expect_word(Keyword::While)?;
         let condition = self.condition(input)?;
-        let body = self.body(input)?;
+        let body = or_drop!(self.body(input), condition);
         input.leave(scope);
         Ok(Stmt::While(word, condition, body))
     }
@@ -290,9 +298,9 @@ impl<F: Fn(Global, &mut Cursor<'_>, u32, Wanted) -> Result<Found, ParseFault>> G
         let scope = input.mark();
         let word = input.expect_word(Keyword::Do)?;
         let body = self.body(input)?;
-        let while_word = input.expect_word(Keyword::While)?;
-        let condition = self.condition(input)?;
-        let semicolon = input.expect(Punct::Semicolon)?;
+        let while_word = or_drop!(input.expect_word(Keyword::While), body);
+        let condition = or_drop!(self.condition(input), body);
+        let semicolon = or_drop!(input.expect(Punct::Semicolon), body, condition);
         input.leave(scope);
         Ok(Stmt::Do {
             word,
@@ -313,7 +321,7 @@ impl<F: Fn(Global, &mut Cursor<'_>, u32, Wanted) -> Result<Found, ParseFault>> G
         let scope = input.mark();
         let word = input.expect_word(Keyword::For)?;
         let control = self.for_control(input)?;
-        let body = self.body(input)?;
+        let body = or_drop!(self.body(input), control);
         input.leave(scope);
         Ok(Stmt::For(word, control, body))
     }
@@ -328,7 +336,7 @@ impl<F: Fn(Global, &mut Cursor<'_>, u32, Wanted) -> Result<Found, ParseFault>> G
         let scope = input.mark();
         let word = input.expect_word(Keyword::Switch)?;
         let condition = self.condition(input)?;
-        let body = self.scoped_block(input, true)?;
+        let body = or_drop!(self.scoped_block(input, true), condition);
         input.leave(scope);
         Ok(Stmt::Switch(word, condition, body))
     }

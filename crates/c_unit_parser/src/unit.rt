@@ -1,4 +1,5 @@
 //! Function definitions and units (C11 6.9).
+//! What stands behind the first declarator tells a definition from a declaration.
 
 ghost use Rattle.std.specs.Prelude.{◌≡◌, OnOk};
 ghost use Rattle.c_tree.specs.Levels.Names.{Names};
@@ -12,10 +13,10 @@ ghost use Rattle.c_unit_parser.specs.Parts as parts;
 
 use crate::cursor::Cursor;
 use crate::grammar::Grammar;
-use crate::memory::push;
+use crate::memory::pushed;
 use crate::nodes::{Beside, beside_name};
 use crate::wanted::{Found, Wanted};
-use c_expr_parser::ParseFault;
+use c_expr_parser::{ParseFault, or_drop};
 use c_tree::{
     Block, Declaration, Declarator, Definition, External, InitDeclarator, Parameter, Punct,
     Specifiers,
@@ -63,14 +64,17 @@ impl<F: Fn(Global, &mut Cursor<'_>, u32, Wanted) -> Result<Found, ParseFault>> G
         ensures keeps { OnOk result (Keeps input.old.state input.new.state) }
         ensures ends { input.new.end ≡ input.old.end }
     {
-        let start = self.start(input)?;
+        let start = or_drop!(self.start(input), specifiers, declarator);
         let first = InitDeclarator {
             comma: None,
             declarator,
             start,
         };
-        let declarators = self.more_declarators(input, specifiers.as_slice(), first)?;
-        let semicolon = input.expect(Punct::Semicolon)?;
+        let declarators = or_drop!(
+            self.more_declarators(input, specifiers.as_slice(), first),
+            specifiers
+        );
+        let semicolon = or_drop!(input.expect(Punct::Semicolon), specifiers, declarators);
         Ok(External::Declaration(Declaration {
             specifiers,
             declarators,
@@ -88,7 +92,7 @@ impl<F: Fn(Global, &mut Cursor<'_>, u32, Wanted) -> Result<Found, ParseFault>> G
         ensures keeps { OnOk result (Keeps input.old.state input.new.state) }
         ensures ends { input.new.end ≡ input.old.end }
     {
-        let semicolon = input.expect(Punct::Semicolon)?;
+        let semicolon = or_drop!(input.expect(Punct::Semicolon), specifiers);
         Ok(External::Declaration(Declaration {
             specifiers,
             declarators: Items::new(self.alloc),
@@ -107,10 +111,10 @@ impl<F: Fn(Global, &mut Cursor<'_>, u32, Wanted) -> Result<Found, ParseFault>> G
         ensures keeps { OnOk result (Keeps input.old.state input.new.state) }
         ensures ends { input.new.end ≡ input.old.end }
     {
-        let declarator = self.named(input, specifiers.as_slice())?;
+        let declarator = or_drop!(self.named(input, specifiers.as_slice()), specifiers);
         if input.sees(Punct::LeftBrace) {
             if let Beside::Listing(listed) = beside_name(&declarator) {
-                let body = self.function_body(input, listed)?;
+                let body = or_drop!(self.function_body(input, listed), specifiers, declarator);
                 return Ok(External::Definition(Definition {
                     specifiers,
                     declarator,
@@ -144,13 +148,14 @@ impl<F: Fn(Global, &mut Cursor<'_>, u32, Wanted) -> Result<Found, ParseFault>> G
         ensures keeps { OnOk result (Keeps input.old.state input.new.state) }
         ensures ends { input.new.end ≡ input.old.end }
     {
-        let mut found = Items::new(self.alloc);
-        push(&mut found, self.external(input)?)?;
+        let first = self.external(input)?;
+        let mut found = pushed(Items::new(self.alloc), first)?;
         for _turn in 0..input.left() {
             if !goes_external(input) {
                 return Ok(found);
             }
-            push(&mut found, self.external(input)?)?;
+            let next = or_drop!(self.external(input), found);
+            found = pushed(found, next)?;
         }
         Ok(found)
     }

@@ -1,4 +1,5 @@
 //! What a call is asked for that reads what is nested by one more, and what it gives.
+//! One function value reads all of it, so what it reads is told by a value.
 
 use c_tree::{BlockItem, Declaration, Initialiser, Stmt};
 

@@ -1,23 +1,14 @@
 //! What the kinds of tokens stand for.
+//! They tell which statement, and which item of a block, a token begins.
 
 ghost use Rattle.std.specs.Prelude.{◌≡◌, true, [], Some};
 ghost use Rattle.std.specs.Option.{option_copied};
 ghost use Rattle.c_tree.specs.declared.token.TokenKind.TheVariants as k;
-ghost use Rattle.c_grammar.specs.Input as input;
-ghost use Rattle.c_grammar.specs.Punctuators.{same_mark};
-ghost use Rattle.c_grammar.specs.Read.Inner as inner;
 ghost use Rattle.c_unit_grammar.specs.Keywords.{same_word};
 ghost use Rattle.c_unit_grammar.specs.Read.Words as spec;
 ghost use Rattle.c_unit_parser.specs.Kinds.{of_statement, of_item};
 
 use c_tree::{Keyword, Punct, TokenKind};
-
-/// Whether two punctuators are one.
-fn is_same(one: Punct, other: Punct) -> bool
-    ensures { result ≡ same_mark one other }
-{
-    one as u8 == other as u8
-}
 
 /// Whether two keywords are one.
 fn is_same_word(one: Keyword, other: Keyword) -> bool
@@ -26,47 +17,12 @@ fn is_same_word(one: Keyword, other: Keyword) -> bool
     one as u8 == other as u8
 }
 
-/// Whether a token is this punctuator.
-pub fn is_mark(kind: Option<&TokenKind>, op: Punct) -> bool
-    ensures { result ≡ input.is_mark op (option_copied kind.entry) }
-{
-    match kind {
-        Some(TokenKind::Punct(other)) => is_same(*other, op),
-        _ => false,
-    }
-}
-
 /// Whether a token is this keyword.
 pub fn is_word(kind: Option<&TokenKind>, word: Keyword) -> bool
     ensures { result ≡ spec.is_word word (option_copied kind.entry) }
 {
     match kind {
         Some(TokenKind::Keyword(other)) => is_same_word(*other, word),
-        _ => false,
-    }
-}
-
-/// Whether a word is a specifier or begins one (C11 6.7.1 to 6.7.3).
-pub fn begins_specifiers(word: Keyword) -> bool
-    ensures { result ≡ inner.word_begins true word }
-{
-    match word {
-        Keyword::Const
-        | Keyword::Struct
-        | Keyword::Enum
-        | Keyword::Void
-        | Keyword::Char
-        | Keyword::Short
-        | Keyword::Int
-        | Keyword::Long
-        | Keyword::Signed
-        | Keyword::Unsigned
-        | Keyword::Bool
-        | Keyword::Typedef
-        | Keyword::Extern
-        | Keyword::Static
-        | Keyword::Auto
-        | Keyword::Register => true,
         _ => false,
     }
 }

@@ -1,3 +1,5 @@
+-- `declarator` answers by the laws on declarators.
+-- They take what is read to all that a call ensures.
 use Rattle.c_grammar.specs.Productions as trees
 use Rattle.c_grammar.specs.Read.Depth as grammar
 use Rattle.c_grammar.specs.Laws.Productions.{declarators_at_front, no_typedefs_declared}
@@ -6,6 +8,4 @@ use Rattle.c_expr_parser.proofs.AtFront.{clauses}
 use Rattle.c_expr_parser.proofs.calls.declarator.Goals as goal
 
 pub returns : goal.returns
-returns c =
-    let k = clauses (trees.declarators (use_of c.args.purpose) c.args.typed) (λ n. grammar.declarator n (use_of c.args.purpose) c.args.typed) (declarators_at_front (use_of c.args.purpose) c.args.typed) (no_typedefs_declared.2 (use_of c.args.purpose) c.args.typed) c.args.names.now c.read_declarator.new.names c.args.tokens.now.list c.args.at c.args.depth c.args.tokens.now.end c.requires.place c.requires.nesting c.read_declarator.result c.read_declarator.ensures in
-    record { found = k.found; behind = k.behind; comes = k.comes; declared = k.declared; plain = k.plain; kept = k.kept; refused = k.refused }
+returns c = clauses (trees.declarators (use_of c.args.purpose) c.args.typed) (λ n. grammar.declarator n (use_of c.args.purpose) c.args.typed) (declarators_at_front (use_of c.args.purpose) c.args.typed) (no_typedefs_declared.2 (use_of c.args.purpose) c.args.typed) c.args.names.now c.read_declarator.new.names c.args.tokens.now.list c.args.at c.args.depth c.args.tokens.now.end c.requires.place c.requires.nesting c.read_declarator.result c.read_declarator.ensures

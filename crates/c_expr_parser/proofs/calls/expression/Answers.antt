@@ -1,3 +1,5 @@
+-- `expression` answers by the laws on expressions.
+-- They take what is read to all that a call ensures.
 use Rattle.c_grammar.specs.Productions as trees
 use Rattle.c_grammar.specs.Read.Depth as grammar
 use Rattle.c_grammar.specs.Laws.Productions.{commas_at_front, no_typedefs_declared}
@@ -6,6 +8,4 @@ use Rattle.c_expr_parser.proofs.AtFront.{clauses}
 use Rattle.c_expr_parser.proofs.calls.expression.Goals as goal
 
 pub returns : goal.returns
-returns c =
-    let k = clauses (trees.expressions comma) (λ n. grammar.expression n comma) commas_at_front (no_typedefs_declared.0 comma) c.args.names.now c.read_expression.new.names c.args.tokens.now.list c.args.at c.args.depth c.args.tokens.now.end c.requires.place c.requires.nesting c.read_expression.result c.read_expression.ensures in
-    record { found = k.found; behind = k.behind; comes = k.comes; declared = k.declared; plain = k.plain; kept = k.kept; refused = k.refused }
+returns c = clauses (trees.expressions comma) (λ n. grammar.expression n comma) commas_at_front (no_typedefs_declared.0 comma) c.args.names.now c.read_expression.new.names c.args.tokens.now.list c.args.at c.args.depth c.args.tokens.now.end c.requires.place c.requires.nesting c.read_expression.result c.read_expression.ensures

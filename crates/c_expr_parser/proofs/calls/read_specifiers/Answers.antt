@@ -1,5 +1,8 @@
+-- `read_specifiers` unwraps what was read, which is specifiers.
+-- A refusal is that of the production.
 use Rattle.std.proofs.Common.{suc, ◌-◌, subst, rules, arith}
 use Rattle.std.proofs.lemmas.Grind.{common_steps}
+use Rattle.c_tree.specs.Levelled.{nesting_limit}
 use Rattle.c_grammar.specs.Read.Depth as grammar
 use Rattle.c_expr_parser.specs.declared.wanted.Wanted.TheVariants as wanted
 use Rattle.c_expr_parser.specs.declared.wanted.Found.{Found}
@@ -11,9 +14,9 @@ use Rattle.c_expr_parser.proofs.calls.read_specifiers.Goals as goal
 
 pub returns-in_err-found : goal.returns-in_err-found
 returns-in_err-found c =
-    let k : call.Stopped (grammar.specifiers (call.deepest - c.args.depth) c.args.with_storage) c.args.names.now c.read.new.names c.args.tokens.now.list c.args.at c.args.tokens.now.end c.in_err-found.field-0.0 = stopped found.Specifiers (read (grammar.inside (suc (call.deepest - c.args.depth))) (wanted.Specifiers c.args.with_storage)) (grammar.specifiers (call.deepest - c.args.depth) c.args.with_storage) (wrapped_specifiers (call.deepest - c.args.depth) c.args.with_storage) c.args.names.now c.read.new.names c.args.tokens.now.list c.args.at c.args.tokens.now.end c.in_err-found.field-0.0 c.in_err-found.ensures in
+    let k : call.Stopped (grammar.specifiers (nesting_limit - c.args.depth) c.args.with_storage) c.args.names.now c.read.new.names c.args.tokens.now.list c.args.at c.args.tokens.now.end c.in_err-found.field-0.0 = stopped found.Specifiers (read (grammar.inside (suc (nesting_limit - c.args.depth))) (wanted.Specifiers c.args.with_storage)) (grammar.specifiers (nesting_limit - c.args.depth) c.args.with_storage) (wrapped_specifiers (nesting_limit - c.args.depth) c.args.with_storage) c.args.names.now c.read.new.names c.args.tokens.now.list c.args.at c.args.tokens.now.end c.in_err-found.field-0.0 c.in_err-found.ensures in
     first_of (search rules, grind (arith, common_steps))
 
 pub returns : goal.returns
 returns c =
-    gave found.Specifiers (read (grammar.inside (suc (call.deepest - c.args.depth))) (wanted.Specifiers c.args.with_storage)) (grammar.specifiers (call.deepest - c.args.depth) c.args.with_storage) (wrapped_specifiers (call.deepest - c.args.depth) c.args.with_storage) c.args.names.now c.read.new.names c.args.tokens.now.list c.args.at same_specifiers c.in_ok-found.behind c.in-Specifiers.tree (subst (λ (x : Found). call.Gave (read (grammar.inside (suc (call.deepest - c.args.depth))) (wanted.Specifiers c.args.with_storage)) c.args.names.now c.read.new.names c.args.tokens.now.list c.args.at c.in_ok-found.behind x) c.in-Specifiers.is c.in_ok-found.ensures)
+    gave found.Specifiers (read (grammar.inside (suc (nesting_limit - c.args.depth))) (wanted.Specifiers c.args.with_storage)) (grammar.specifiers (nesting_limit - c.args.depth) c.args.with_storage) (wrapped_specifiers (nesting_limit - c.args.depth) c.args.with_storage) c.args.names.now c.read.new.names c.args.tokens.now.list c.args.at same_specifiers c.in_ok-found.behind c.in-Specifiers.tree (subst (λ (x : Found). call.Gave (read (grammar.inside (suc (nesting_limit - c.args.depth))) (wanted.Specifiers c.args.with_storage)) c.args.names.now c.read.new.names c.args.tokens.now.list c.args.at c.in_ok-found.behind x) c.in-Specifiers.is c.in_ok-found.ensures)

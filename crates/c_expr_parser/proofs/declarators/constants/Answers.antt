@@ -1,4 +1,5 @@
 -- Written by tools/parser_loops.py.
+-- An item that is read or refused, and the end of the list, by the lemmas on turns.
 use Rattle.std.proofs.Common.{rules, arith, refl}
 use Rattle.std.proofs.lemmas.Grind.{common_steps}
 use Rattle.c_expr_parser.proofs.Turns.{item_read, item_refused, items_end, turns_end}
@@ -12,11 +13,11 @@ loop-turn-init c = first_of (search rules, grind (arith, common_steps))
 pub returns-then-not-is_const-clause-reads : goal.returns-then-not-is_const-clause-reads
 returns-then-not-is_const-clause-reads c = items_end c.loop-turn.invariant c.loop-turn-test.true (cc)
 
-pub returns-in_err-const_word-clause-reads : goal.returns-in_err-const_word-clause-reads
-returns-in_err-const_word-clause-reads c = let e = item_refused c.loop-turn.invariant c.loop-turn-test.true (cc) c.in_err-const_word.ensures.reads in search (rules, e)
+pub returns-in-Err-clause-reads : goal.returns-in-Err-clause-reads
+returns-in-Err-clause-reads c = let e = item_refused c.loop-turn.invariant c.loop-turn-test.true (cc) c.in-Err.ensures.reads in search (rules, e)
 
 pub loop-turn-preserved : goal.loop-turn-preserved
-loop-turn-preserved c = item_read c.loop-turn.invariant c.loop-turn-test.true (cc) c.in_ok-const_word.ensures.reads c.in_ok-const_word.ensures.keeps refl c.in_ok-push.ensures.ok
+loop-turn-preserved c = item_read c.loop-turn.invariant c.loop-turn-test.true (cc) c.in-Ok.ensures.reads c.in-Ok.ensures.keeps refl c.in_ok-found.ensures
 
 pub returns-clause-reads : goal.returns-clause-reads
 returns-clause-reads c = turns_end c.loop-turn.invariant c.loop-turn-test.false

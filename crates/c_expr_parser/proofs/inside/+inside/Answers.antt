@@ -1,3 +1,5 @@
+-- `inside` reads what the function of the grammar reads that has the same brackets left.
+-- With none left it stops, and else one fewer is left.
 use Rattle.std.proofs.Common.{◌≡◌, ◌∙◌, ap, arith}
 use Rattle.c_grammar.specs.Read.Depth.{inside}
 use Rattle.c_expr_parser.specs.Wanted.{read}

@@ -1,3 +1,5 @@
+-- `declared_name` gives the name that the levels of the grammar give.
+-- One goal for each kind of middle.
 use Rattle.std.proofs.Common.{rules, arith}
 use Rattle.std.proofs.lemmas.Grind.{common_steps}
 use Rattle.c_expr_parser.proofs.Names.{name_of_nothing, name_of_named, name_of_grouped}

@@ -1,3 +1,5 @@
+-- `have_typedef` looks through the list from its front.
+-- It answers at the first word `typedef`, or goes on where a specifier is none.
 use Rattle.std.proofs.Common.{◌≡◌, true, false, refl}
 use Rattle.c_grammar.specs.Read.Nodes as spec
 use Rattle.c_expr_parser.proofs.Lists.{found_at, not_at}

@@ -1,3 +1,5 @@
+-- `name_type` looks through the list from its front.
+-- It answers at the first specifier that names a type, or goes on where one names none.
 use Rattle.std.proofs.Common.{◌≡◌, true, false, refl}
 use Rattle.c_grammar.specs.Read.Nodes as spec
 use Rattle.c_expr_parser.proofs.Lists.{found_at, not_at}

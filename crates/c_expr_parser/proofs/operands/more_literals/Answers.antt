@@ -1,4 +1,5 @@
 -- Written by tools/parser_loops.py.
+-- An item that is read or refused, and the end of the list, by the lemmas on turns.
 use Rattle.std.proofs.Common.{rules, refl}
 use Rattle.c_expr_parser.proofs.Turns.{item_read, item_refused, items_end, turns_end}
 use Rattle.c_expr_parser.proofs.operands.more_literals.Goals as goal
@@ -6,11 +7,11 @@ use Rattle.c_expr_parser.proofs.operands.more_literals.Goals as goal
 pub returns-then-not-is_bytes-clause-reads : goal.returns-then-not-is_bytes-clause-reads
 returns-then-not-is_bytes-clause-reads c = items_end c.loop-turn.invariant c.loop-turn-test.true (cc)
 
-pub returns-in_err-literal-clause-reads : goal.returns-in_err-literal-clause-reads
-returns-in_err-literal-clause-reads c = let e = item_refused c.loop-turn.invariant c.loop-turn-test.true (cc) c.in_err-literal.ensures.reads in search (rules, e)
+pub returns-in-Err-clause-reads : goal.returns-in-Err-clause-reads
+returns-in-Err-clause-reads c = let e = item_refused c.loop-turn.invariant c.loop-turn-test.true (cc) c.in-Err.ensures.reads in search (rules, e)
 
 pub loop-turn-preserved : goal.loop-turn-preserved
-loop-turn-preserved c = item_read c.loop-turn.invariant c.loop-turn-test.true (cc) c.in_ok-literal.ensures.reads c.in_ok-literal.ensures.keeps refl c.in_ok-push-2.ensures.ok
+loop-turn-preserved c = item_read c.loop-turn.invariant c.loop-turn-test.true (cc) c.in-Ok.ensures.reads c.in-Ok.ensures.keeps refl c.in_ok-found-2.ensures
 
 pub returns-clause-reads : goal.returns-clause-reads
 returns-clause-reads c = turns_end c.loop-turn.invariant c.loop-turn-test.false

@@ -1,3 +1,5 @@
+-- `level_at` gives the level that stands at the index in the list of levels.
+-- All past the list are the loosest.
 use Rattle.std.proofs.Common.{◌≤◌, length, arith, sym}
 use Rattle.std.proofs.lemmas.List.{get_or_past}
 use Rattle.c_tree.specs.declared.expression.Level.TheVariants as level

@@ -1,3 +1,5 @@
+-- `parse` asks of its function value what it is, and ensures what the laws of the grammar give.
+-- A refusal is that of the function on lists.
 use Rattle.std.proofs.Common.{◌≡◌, ◌≢◌, [], Ok, Err, arith}
 use Rattle.std.proofs.lemmas.Result.{err_from_is_err_and}
 use Rattle.c_tree.specs.Levelled.{nesting_limit}

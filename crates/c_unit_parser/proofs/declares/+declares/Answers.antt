@@ -1,3 +1,5 @@
+-- The walk over trees puts behind the names what the levels of the grammar declare.
+-- One goal for each kind of tree, and two for each list.
 use Rattle.std.proofs.Common.{false, [], ◌∷◌, refl, arith}
 use Rattle.std.proofs.lemmas.Grind.{common_steps}
 use Rattle.std.proofs.lemmas.Result.{on_ok_weaker}

@@ -1,3 +1,5 @@
+-- The invariants of the lists in the walk over trees, and the measures of its functions.
+-- What is declared so far is that of the items so far.
 use Rattle.std.proofs.Common.{map, take}
 use Rattle.c_tree.specs.Levels.Names.{in_row}
 use Rattle.c_tree.specs.Levels.Trees as level

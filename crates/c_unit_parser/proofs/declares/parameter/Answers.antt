@@ -1,3 +1,5 @@
+-- `parameter` declares what its specifiers and its declarator do, and then its name.
+-- A parameter without a name declares no more.
 use Rattle.std.proofs.Common.{Some, None, refl, ap, sym, ◌∙◌}
 use Rattle.std.proofs.lemmas.List.{append-nil}
 use Rattle.std.proofs.lemmas.Result.{on_ok_weaker}

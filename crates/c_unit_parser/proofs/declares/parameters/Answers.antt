@@ -1,3 +1,5 @@
+-- `parameters` declares what the parameters do, in order.
+-- None at first, and then one more each turn.
 use Rattle.c_tree.specs.Levels.Trees as level
 use Rattle.c_unit_parser.proofs.Puts.{no_row, one_more}
 use Rattle.c_unit_parser.proofs.declares.parameters.Goals as goal

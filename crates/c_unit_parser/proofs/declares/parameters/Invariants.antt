@@ -1,3 +1,5 @@
+-- The invariant of `parameters`.
+-- What is declared so far is that of the parameters so far.
 use Rattle.std.proofs.Common.{map, take}
 use Rattle.c_tree.specs.Levels.Names.{in_row}
 use Rattle.c_tree.specs.Levels.Trees as level

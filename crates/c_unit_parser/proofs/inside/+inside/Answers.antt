@@ -1,3 +1,5 @@
+-- `inside` hands itself on as what each production asks of its function value.
+-- One fewer may be nested in it.
 use Rattle.std.proofs.Common.{◌-◌, ◌<◌, ◌≤◌, arith}
 use Rattle.c_unit_parser.proofs.inside.+inside.Goals as goal
 

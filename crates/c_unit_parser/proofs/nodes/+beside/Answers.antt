@@ -1,3 +1,5 @@
+-- `beside_name` and `in_brackets` tell what the levels of the grammar tell.
+-- One goal for each kind of middle, and for what that tells.
 use Rattle.std.proofs.Common.{◌++◌, arith}
 use Rattle.std.proofs.lemmas.Grind.{common_steps}
 use Rattle.c_tree.specs.declared.declarator.Declarator.{out-Declarator}

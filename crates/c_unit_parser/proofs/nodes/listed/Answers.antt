@@ -1,3 +1,5 @@
+-- `listed` tells of a suffix what the levels of the grammar tell.
+-- One goal for each kind of suffix.
 use Rattle.std.proofs.Common.{arith}
 use Rattle.std.proofs.lemmas.Grind.{common_steps}
 use Rattle.c_tree.specs.Levels.Trees.{declarator_suffix_level-Array, declarator_suffix_level-ArrayOf, declarator_suffix_level-Empty, declarator_suffix_level-Void, declarator_suffix_level-Parameters}

@@ -1,3 +1,5 @@
+-- The cycle of `levels`, `level_rest` and `level_next`: each reads what its parser of levels reads.
+-- The first climbs level by level, and the second reads the list of one level.
 use Rattle.std.proofs.Common.{rules, arith, refl}
 use Rattle.std.proofs.lemmas.Grind.{common_steps}
 use Rattle.c_grammar.specs.Input.{loop}
@@ -15,11 +17,11 @@ level_rest-loop-turn-init g t c = first_of (search rules, grind (arith, common_s
 pub level_rest-returns-then-not-goes-clause-reads : goal.level_rest-returns-then-not-goes-clause-reads
 level_rest-returns-then-not-goes-clause-reads g t c = items_end c.loop-turn.invariant c.loop-turn-test.true (cc)
 
-pub level_rest-returns-in_err-level_next-clause-reads : goal.level_rest-returns-in_err-level_next-clause-reads
-level_rest-returns-in_err-level_next-clause-reads g t c = let e = item_refused c.loop-turn.invariant c.loop-turn-test.true (cc) c.in_err-level_next.ensures.reads in search (rules, e)
+pub level_rest-returns-in-Err-clause-reads : goal.level_rest-returns-in-Err-clause-reads
+level_rest-returns-in-Err-clause-reads g t c = let e = item_refused c.loop-turn.invariant c.loop-turn-test.true (cc) c.in-Err.ensures.reads in search (rules, e)
 
 pub level_rest-loop-turn-preserved : goal.level_rest-loop-turn-preserved
-level_rest-loop-turn-preserved g t c = item_read c.loop-turn.invariant c.loop-turn-test.true (cc) c.in_ok-level_next.ensures.reads c.in_ok-level_next.ensures.keeps refl c.in_ok-push.ensures.ok
+level_rest-loop-turn-preserved g t c = item_read c.loop-turn.invariant c.loop-turn-test.true (cc) c.in-Ok.ensures.reads c.in-Ok.ensures.keeps refl c.in_ok-found.ensures
 
 pub level_rest-returns-clause-reads : goal.level_rest-returns-clause-reads
 level_rest-returns-clause-reads g t c = turns_end c.loop-turn.invariant c.loop-turn-test.false
@@ -34,17 +36,17 @@ levels-returns-in_err-tree-clause-reads g t c =
     let e = no_cast c.args.self.now.more (inside c.args.self.now.more) c.args.count c.args.input.now in
     first_of (search (rules, e), grind (arith, common_steps, e))
 
-pub levels-returns-in_err-rest-clause-reads : goal.levels-returns-in_err-rest-clause-reads
-levels-returns-in_err-rest-clause-reads g t c = let e = level_refused c.loop-index.invariant c.loop-index-test.true c.in_err-rest.ensures.reads in search (rules, e)
+pub levels-returns-in-Err-clause-reads : goal.levels-returns-in-Err-clause-reads
+levels-returns-in-Err-clause-reads g t c = let e = level_refused c.loop-index.invariant c.loop-index-test.true c.in-Err.ensures.reads in search (rules, e)
 
 pub levels-loop-index-preserved : goal.levels-loop-index-preserved
-levels-loop-index-preserved g t c = level_read c.loop-index.invariant c.loop-index-test.true c.in_ok-rest.ensures.reads c.in_ok-rest.ensures.keeps c.level_at.ensures c.in_ok-tree-2.ensures
+levels-loop-index-preserved g t c = level_read c.loop-index.invariant c.loop-index-test.true c.in-Ok.ensures.reads c.in-Ok.ensures.keeps c.level_at.ensures c.in_ok-tree-2.ensures
 
 pub levels-returns-clause-reads : goal.levels-returns-clause-reads
 levels-returns-clause-reads g t c = levels_end c.loop-index.invariant c.loop-index-test.false
 
-pub levels-returns-in_err-rest-clause-keeps : goal.levels-returns-in_err-rest-clause-keeps
-levels-returns-in_err-rest-clause-keeps g t c = let e = c.loop-index.invariant.keeps in search (rules, e)
+pub levels-returns-in-Err-clause-keeps : goal.levels-returns-in-Err-clause-keeps
+levels-returns-in-Err-clause-keeps g t c = let e = c.loop-index.invariant.keeps in search (rules, e)
 
 pub levels-returns-in_err-tree-2-clause-keeps : goal.levels-returns-in_err-tree-2-clause-keeps
 levels-returns-in_err-tree-2-clause-keeps g t c = let e = c.loop-index.invariant.keeps in search (rules, e)

@@ -1,3 +1,5 @@
+-- The invariants of the two loops of the cycle of `levels`, and its measures.
+-- A level calls those below it alone, so three times the level goes down.
 use Rattle.std.proofs.Common.{◌+◌, ◌*◌}
 use Rattle.c_tree.specs.Levels.Productions as production
 use Rattle.c_grammar.specs.Input.{goes}

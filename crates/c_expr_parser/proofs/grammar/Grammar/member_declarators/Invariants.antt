@@ -1,4 +1,5 @@
 -- Written by tools/parser_loops.py.
+-- What is left of the tokens gives what is left of the list, item by item.
 use Rattle.c_grammar.specs.Input.{sees}
 use Rattle.c_grammar.specs.Read.Depth.{inside}
 use Rattle.c_expr_parser.proofs.Turns.{Listing}

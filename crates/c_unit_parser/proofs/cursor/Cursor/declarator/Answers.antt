@@ -1,4 +1,5 @@
 -- Written by tools/unit_calls.py.
+-- What the call below reads is what the grammar reads there, by the lemma on calls.
 use Rattle.std.proofs.Common.{◌-◌, refl, ap, sym, ◌∙◌}
 use Rattle.c_tree.specs.Levels.Facts.{Declaring}
 use Rattle.c_grammar.specs.Productions as trees

@@ -1,3 +1,5 @@
+-- `nested_expression` reads what the grammar reads inside a bracket.
+-- With none to be opened it stops, and else reads with one fewer.
 use Rattle.std.proofs.Common.{arith, rules}
 use Rattle.std.proofs.lemmas.Grind.{common_steps}
 use Rattle.c_unit_parser.proofs.Depth.{no_expression, expression_inside}

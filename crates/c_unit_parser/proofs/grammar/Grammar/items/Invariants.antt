@@ -1,4 +1,5 @@
 -- Written by tools/parser_loops.py.
+-- What is left of the tokens gives what is left of the list, item by item.
 use Rattle.c_unit_parser.proofs.Turns.{Listing}
 use Rattle.c_unit_grammar.specs.Read.Statements as statements
 use Rattle.c_unit_parser.specs.Parts as parts
