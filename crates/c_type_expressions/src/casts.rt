@@ -21,7 +21,7 @@ use word_ops::Memory;
 /// # Errors
 ///
 /// `Memory` where memory is wanting.
-pub fn cast_row(
+pub(crate) fn cast_row(
     alloc: Global,
     found: &mut Found,
     around: &Around<'_>,
@@ -34,7 +34,10 @@ pub fn cast_row(
     if is_void(&ctype) {
         return Ok(Some(dropping(alloc, operand)?));
     }
-    let value = valued(alloc, operand)?;
+    let Ok(value) = valued(alloc, operand) else {
+        drop(ctype);
+        return Err(Memory);
+    };
     if !casts(&ctype, &value) {
         return refused(found, around, FaultKind::Mismatch, place, (ctype, value));
     }

@@ -45,7 +45,11 @@ pub fn prefix_row(
 {
     match prefix {
         Prefixing::Marking(mark) => mark_row(alloc, found, around, mark, operand),
-        Prefixing::Sizing(place) => size_row(alloc, found, around, place, &operand.ctype),
+        Prefixing::Sizing(place) => {
+            let size = size_row(alloc, found, around, place, &operand.ctype);
+            drop(operand);
+            size
+        }
         Prefixing::Casting(place, ctype) => {
             cast_row(alloc, found, around, place, ctype, operand)
         }
@@ -57,7 +61,7 @@ pub fn prefix_row(
 /// # Errors
 ///
 /// `Memory` where memory is wanting.
-pub fn mark_row(
+fn mark_row(
     alloc: Global,
     found: &mut Found,
     around: &Around<'_>,

@@ -88,8 +88,14 @@ fn combined_stand_ins(
 ) -> Result<Row, Memory>
     ensures { IfOk result (λ row. row ≡ operators.binary tags.now operator (stand_in_of left) (stand_in_of right)) }
 {
-    let left = stand_in(alloc, left)?;
-    let right = stand_in(alloc, right)?;
+    let Ok(left) = stand_in(alloc, left) else {
+        drop(right);
+        return Err(Memory);
+    };
+    let Ok(right) = stand_in(alloc, right) else {
+        drop(left);
+        return Err(Memory);
+    };
     let row = binary(alloc, tags, operator, &left, &right);
     drop((left, right));
     row

@@ -38,7 +38,7 @@ pub fn truth_row(
 /// # Errors
 ///
 /// `Memory` where memory is wanting.
-pub fn not_row(
+pub(crate) fn not_row(
     alloc: Global,
     found: &mut Found,
     around: &Around<'_>,
