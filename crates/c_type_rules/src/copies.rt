@@ -30,7 +30,14 @@ fn copied_derivations(alloc: Global, list: &[Derived]) -> Result<Items<Derived>,
 {
     let mut copies = Vec::new(alloc);
     for one in list {
-        copies.push(copied_derivation(alloc, one)?)?;
+        let Ok(copy) = copied_derivation(alloc, one) else {
+            drop(copies);
+            return Err(Memory);
+        };
+        if copies.push(copy).is_err() {
+            drop(copies);
+            return Err(Memory);
+        }
     }
     Ok(Items::from_vec(copies))
 }
@@ -59,7 +66,14 @@ fn copied_types(alloc: Global, list: &[CType]) -> Result<Items<CType>, Memory>
 {
     let mut copies = Vec::new(alloc);
     for one in list {
-        copies.push(copied(alloc, one)?)?;
+        let Ok(copy) = copied(alloc, one) else {
+            drop(copies);
+            return Err(Memory);
+        };
+        if copies.push(copy).is_err() {
+            drop(copies);
+            return Err(Memory);
+        }
     }
     Ok(Items::from_vec(copies))
 }
