@@ -1,4 +1,5 @@
--- A call of a function with linkage: it is told beside the call that the unit has no definition of it.
+-- A call of a function with linkage:
+-- it is told beside the call that the unit has no definition of it.
 use Rattle.std.proofs.Common.{◌≡◌, ◌∙◌, ap, subst, List, ◌++◌, append_assoc, Option, Result, Ok, Err}
 use Rattle.word_ops.specs.declared.memory.Memory.{Memory}
 use Rattle.c_tree.specs.declared.token.Pos.{Pos}

@@ -1,4 +1,5 @@
-//! Operators that take two values (C11 6.5.5 to 6.5.12, 6.5.2.1), and `+`, `-` and `~` of one (C11 6.5.3.3).
+//! The rows of operators that take two values (C11 6.5.5 to 6.5.12, 6.5.2.1), and of `+`,
+//! `-` and `~` of one (C11 6.5.3.3).
 
 ghost use Rattle.std.specs.Prelude.{◌≡◌, IfOk};
 ghost use Rattle.c_typing.specs.declared.operand.Form.TheVariants as form;
@@ -14,8 +15,8 @@ use crate::trees::converted_tree;
 use c_tree::typed::{Step, Unary};
 use c_tree::{FaultKind, Mark, Pos};
 use c_type_rules::{
-    binary, converted, copied, index, is_integer, promoted, promoted_type, sign_of,
-    then_step, then_unary, tree_of, valued,
+    binary, converted, copied, index, is_integer, promoted, promoted_type, sign_of, then_step,
+    then_unary, valued,
 };
 use c_type_walk::{Around, Found};
 use c_typing::{Form, Operand, Plan, Row};

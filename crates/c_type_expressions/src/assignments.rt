@@ -1,4 +1,5 @@
-//! Assignments (C11 6.5.16).
+//! The rows of assignments (C11 6.5.16), which are read from the right: `Assigned` keeps
+//! the left sides that were passed, and the value at the right end.
 
 ghost use Rattle.std.specs.Prelude.{◌≡◌, ◌∷◌, ◌++◌, [], true, Some, None, IfOk, reverse};
 ghost use Rattle.std.specs.Option.{option_map};

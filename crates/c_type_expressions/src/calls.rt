@@ -1,4 +1,5 @@
-//! Calls (C11 6.5.2.2), and those of the library (C11 7.21.7.6, 7.21.7.8, 7.22.4.4).
+//! The row of a call, of a function of the unit (C11 6.5.2.2) or of the library
+//! (C11 7.21.7.6, 7.21.7.8, 7.22.4.4).
 
 ghost use Rattle.std.specs.Prelude.{◌≡◌, ◌++◌, false, List, Some, IfOk, OnOk};
 ghost use Rattle.c_typing.specs.Types as types;
@@ -104,7 +105,10 @@ fn function_call(
         drop((arguments, given));
         return Err(Memory);
     }
-    if found.unready_if(is_struct(&given), FaultKind::StructValue, place).is_err() {
+    if found
+        .unready_if(is_struct(&given), FaultKind::StructValue, place)
+        .is_err()
+    {
         drop((arguments, given));
         return Err(Memory);
     }

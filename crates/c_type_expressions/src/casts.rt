@@ -1,4 +1,5 @@
-//! Casts (C11 6.5.4).
+//! The row of a cast (C11 6.5.4): which values may be cast to which types,
+//! and the value that a cast gives.
 
 ghost use Rattle.std.specs.Prelude.{◌≡◌};
 ghost use Rattle.c_typing.specs.Expressions as spec;

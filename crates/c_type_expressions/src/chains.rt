@@ -1,4 +1,5 @@
-//! Chains of `? :` (C11 6.5.15).
+//! The rows of `? :` (C11 6.5.15), which are read from the right: `Chain` keeps the
+//! conditions that were passed, and the last operand.
 
 ghost use Rattle.std.specs.Prelude.{◌≡◌, ◌&&◌, ◌++◌, ◌∷◌, [], false, IfOk, map, reverse};
 ghost use Rattle.std.specs.Option.{option_map};
@@ -18,8 +19,8 @@ use crate::truth::truth_row;
 use c_tree::typed::{Arm, CType, TExpr};
 use c_tree::{FaultKind, Pos};
 use c_type_rules::{
-    chosen_by, copied, dropping, is_integer, is_null_constant, is_pointer, is_void,
-    tree_of, value, valued,
+    chosen_by, copied, dropping, is_integer, is_null_constant, is_pointer, is_void, tree_of, value,
+    valued,
 };
 use c_type_walk::{Around, Found};
 use c_typing::Operand;
@@ -345,12 +346,7 @@ fn with_arm(
 }
 
 /// A condition and what is chosen where it holds, as trees.
-fn arm_of(
-    alloc: Global,
-    ctype: &CType,
-    condition: Operand,
-    chosen: Operand,
-) -> Result<Arm, Memory>
+fn arm_of(alloc: Global, ctype: &CType, condition: Operand, chosen: Operand) -> Result<Arm, Memory>
     ensures { IfOk result (λ arm. arm ≡ arm_at ctype.now (condition, chosen)) }
 {
     let Ok(condition) = tree_of(alloc, condition) else {

@@ -1,4 +1,5 @@
-//! Values given to objects: initialisers, arguments, and what `return` gives (C11 6.5.16.1p1).
+//! The row of a value that an object is given, by an initialiser, as an argument or by
+//! `return` (C11 6.5.16.1p1).
 
 ghost use Rattle.std.specs.Prelude.{◌≡◌, IfOk};
 ghost use Rattle.c_typing.specs.Types as types;
@@ -11,9 +12,7 @@ use crate::refusals::refused;
 use crate::trees::converted_tree;
 use c_tree::typed::{CType, TExpr};
 use c_tree::{FaultKind, Pos};
-use c_type_rules::{
-    alike, copied, is_assignable, is_struct, unqualified, valued,
-};
+use c_type_rules::{alike, copied, is_assignable, is_struct, unqualified, valued};
 use c_type_walk::{Around, Found};
 use c_typing::Operand;
 use std::alloc::Global;

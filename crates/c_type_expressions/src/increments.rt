@@ -1,4 +1,5 @@
-//! `++` and `--` (C11 6.5.2.4, 6.5.3.1).
+//! The rows of `++` and `--` (C11 6.5.2.4, 6.5.3.1): how the object is changed, and which
+//! value is given.
 
 ghost use Rattle.std.specs.Prelude.{◌≡◌, true, IfOk};
 ghost use Rattle.c_tree.specs.declared.typed.expression.TExpr.TheVariants as x;

@@ -1,4 +1,5 @@
-//! `.` and `->` (C11 6.5.2.3).
+//! The rows of `.` and `->` (C11 6.5.2.3): a member of a structure, as an lvalue or
+//! as a value.
 
 ghost use Rattle.std.specs.Prelude.{◌≡◌, IfOk};
 ghost use Rattle.c_tree.specs.declared.typed.operator.Unary.TheVariants as unary;

@@ -1,4 +1,5 @@
-//! Names (C11 6.5.1p2).
+//! The row of a name (C11 6.5.1p2): an enumeration constant, or the lvalue of an object,
+//! by what the name stands for where it is used.
 
 ghost use Rattle.std.specs.Prelude.{◌≡◌, IfOk, Some};
 ghost use Rattle.c_tree.specs.declared.typed.expression.TExpr.TheVariants as x;

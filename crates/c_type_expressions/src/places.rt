@@ -1,4 +1,5 @@
-//! `*` and `&` (C11 6.5.3.2).
+//! The rows of `*` and `&` (C11 6.5.3.2): the lvalue to which an address leads, and the
+//! address of an lvalue.
 
 ghost use Rattle.std.specs.Prelude.{◌≡◌, false, IfOk, OnOk};
 ghost use Rattle.c_typing.specs.declared.operand.Form.TheVariants as form;

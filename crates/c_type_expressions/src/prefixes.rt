@@ -1,4 +1,5 @@
-//! Prefix operators (C11 6.5.3, 6.5.4).
+//! The rows of prefix operators (C11 6.5.3, 6.5.4), of which each is the row of its
+//! operator, of `sizeof` or of a cast.
 
 ghost use Rattle.c_typing.specs.OfTrees as spec;
 ghost use Rattle.c_type_walk.specs.Walks.{Walks};

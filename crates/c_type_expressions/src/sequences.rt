@@ -1,4 +1,5 @@
-//! What lists of operands are: those of `,`, `&&` and `||` (C11 6.5.13, 6.5.14, 6.5.17).
+//! The rows of `,`, `&&` and `||` (C11 6.5.13, 6.5.14, 6.5.17): one tree of a list
+//! of operands.
 
 ghost use Rattle.std.specs.Prelude.{◌≡◌, IfOk};
 ghost use Rattle.c_tree.specs.declared.typed.expression.TExpr.TheVariants as x;

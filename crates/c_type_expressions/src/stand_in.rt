@@ -1,4 +1,5 @@
-//! Operands that stand for others of which only the type matters.
+//! Operands that stand for others of which only the type matters: the rows of compound
+//! assignments, `++` and `--` ask the table of operators about them.
 
 ghost use Rattle.std.specs.Prelude.{◌≡◌, true, IfOk, is_some};
 ghost use Rattle.c_typing.specs.Types as types;
@@ -13,7 +14,7 @@ use c_layout::Tags;
 use c_tree::Punct;
 use c_tree::typed::CType;
 use c_type_rules::{
-    LentType, TypeShape, binary, copied, is_assignable, number, pointer_to, shape, unqualified,
+    TypeShape, binary, copied, is_assignable, number, pointer_to, shape, unqualified,
 };
 use c_typing::{Operand, Row};
 use std::alloc::Global;

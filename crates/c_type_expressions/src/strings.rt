@@ -1,4 +1,5 @@
-//! String literals (C11 6.4.5p6).
+//! The row of a string literal (C11 6.4.5p6): the array that it is, and its object
+//! among the static ones of the unit.
 
 ghost use Rattle.std.specs.Prelude.{◌≡◌, ◌<◌, ◌^◌, ◌+◌, IfOk, length};
 ghost use Rattle.c_tree.specs.declared.typed.expression.TExpr.TheVariants as x;

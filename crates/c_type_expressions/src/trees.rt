@@ -10,11 +10,7 @@ use std::alloc::Global;
 use word_ops::{Items, Memory};
 
 /// The tree of an operand that is converted to this type.
-pub(crate) fn converted_tree(
-    alloc: Global,
-    ctype: CType,
-    operand: Operand,
-) -> Result<TExpr, Memory>
+pub(crate) fn converted_tree(alloc: Global, ctype: CType, operand: Operand) -> Result<TExpr, Memory>
     ensures { IfOk result (λ tree. tree ≡ operands.tree_of (operands.converted ctype operand)) }
 {
     tree_of(alloc, converted(alloc, ctype, operand)?)

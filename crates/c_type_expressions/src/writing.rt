@@ -1,8 +1,8 @@
-//! What may be written (C11 6.3.2.1p1, 6.5.16p2).
+//! Which operands may be written (C11 6.3.2.1p1, 6.5.16p2): the left sides of
+//! assignments, and the operands of `++` and `--`.
 
 ghost use Rattle.std.specs.Prelude.{◌≡◌, suc, IfOk};
 ghost use Rattle.std.specs.List.{list_any};
-ghost use Rattle.c_typing.specs.Operands as operands;
 ghost use Rattle.c_typing.specs.Expressions as spec;
 ghost use Rattle.c_type_walk.specs.Walks.{Walks};
 ghost use Rattle.c_type_expressions.specs.Lvalues.{IsLvalue};

@@ -30,14 +30,7 @@ fn copied_derivations(alloc: Global, list: &[Derived]) -> Result<Items<Derived>,
 {
     let mut copies = Vec::new(alloc);
     for one in list {
-        let Ok(copy) = copied_derivation(alloc, one) else {
-            drop(copies);
-            return Err(Memory);
-        };
-        if copies.push(copy).is_err() {
-            drop(copies);
-            return Err(Memory);
-        }
+        copies.push(copied_derivation(alloc, one)?)?;
     }
     Ok(Items::from_vec(copies))
 }
@@ -66,14 +59,7 @@ fn copied_types(alloc: Global, list: &[CType]) -> Result<Items<CType>, Memory>
 {
     let mut copies = Vec::new(alloc);
     for one in list {
-        let Ok(copy) = copied(alloc, one) else {
-            drop(copies);
-            return Err(Memory);
-        };
-        if copies.push(copy).is_err() {
-            drop(copies);
-            return Err(Memory);
-        }
+        copies.push(copied(alloc, one)?)?;
     }
     Ok(Items::from_vec(copies))
 }

@@ -1,3 +1,5 @@
+-- The row of `a[i]` for the values of the two operands
+-- is that for the operands.
 use Rattle.std.proofs.Common.{◌≡◌, ◌∙◌, sym, subst, [], ◌∷◌, Option, Result, Ok, Err}
 use Rattle.word_ops.specs.declared.memory.Memory.{Memory}
 use Rattle.c_tree.specs.declared.token.Pos.{Pos}

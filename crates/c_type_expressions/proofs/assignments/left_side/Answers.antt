@@ -1,3 +1,5 @@
+-- The left side of an assignment
+-- with the type of the value that it gives.
 use Rattle.c_type_expressions.proofs.Targets.{left-side}
 use Rattle.c_type_expressions.proofs.assignments.left_side.Goals as goal
 

@@ -1,3 +1,5 @@
+-- A call of as many arguments as there are parameters
+-- gives what is made of them.
 use Rattle.std.proofs.Common.{◌≡◌, ◌∙◌, ap, subst, ℕ, true, List, Option}
 use Rattle.c_tree.specs.declared.typed.expression.TExpr.{TExpr}
 use Rattle.c_typing.specs.Expressions as spec

@@ -1,4 +1,6 @@
-use Rattle.std.proofs.Common.{◌≡◌, ◌∙◌, refl, sym, subst, List, [], ◌∷◌, Option}
+-- One argument more in the row of a call,
+-- and the end of the arguments.
+use Rattle.std.proofs.Common.{◌≡◌, ◌∙◌, sym, subst, List, [], ◌∷◌, Option}
 use Rattle.std.proofs.lemmas.List.{nil_from_length}
 use Rattle.c_tree.specs.declared.token.Pos.{Pos}
 use Rattle.c_tree.specs.declared.typed.types.CType.{CType}

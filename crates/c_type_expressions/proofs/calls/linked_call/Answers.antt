@@ -1,4 +1,5 @@
--- A function with linkage is called.
+-- The row of a call of a name with linkage,
+-- where that is a function.
 use Rattle.std.proofs.Common.{◌∙◌, ap}
 use Rattle.c_tree.specs.declared.typed.types.CType.{CType}
 use Rattle.c_typing.specs.Types.{FunctionOf, shape}

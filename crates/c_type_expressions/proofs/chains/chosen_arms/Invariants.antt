@@ -1,3 +1,5 @@
+-- The loop over the conditions of a chain: those that were made into trees,
+-- and those that are left, are the whole list.
 use Rattle.std.proofs.Common.{◌≡◌, ◌++◌, map, reverse, length}
 use Rattle.c_type_expressions.specs.Chains.{arm_at}
 use Rattle.c_type_expressions.proofs.chains.chosen_arms.Given as goal

@@ -1,3 +1,5 @@
+-- The row of `? :` before a chain of which the tree was made
+-- is that before the chain as it was.
 use Rattle.std.proofs.Common.{◌∙◌, ap, subst, ◌&&◌}
 use Rattle.c_typing.specs.Types.{is_pointer}
 use Rattle.c_typing.specs.Operators.{chosen}

@@ -1,3 +1,5 @@
+-- The row of `? :` where its operands go together
+-- gives the chain with one more condition.
 use Rattle.std.proofs.Common.{◌≡◌, ◌∙◌, ap, refl, sym, subst, false, ◌&&◌, Option, Some}
 use Rattle.std.proofs.lemmas.List.{append-nil}
 use Rattle.c_tree.specs.declared.token.Pos.{Pos}

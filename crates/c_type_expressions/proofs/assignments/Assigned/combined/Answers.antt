@@ -1,3 +1,5 @@
+-- The row of the operator in a compound assignment
+-- by the types of both sides.
 use Rattle.std.proofs.Common.{◌∙◌, sym}
 use Rattle.c_typing.specs.Operands.{valued}
 use Rattle.c_type_expressions.specs.Assignments.{assigned_of}
