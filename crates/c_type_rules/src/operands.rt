@@ -1,4 +1,5 @@
-//! Operands: how they are made and changed, and which are lvalues.
+//! Operands: how they are made and changed, which are lvalues, and the tree that an
+//! operand comes to.
 
 ghost use Rattle.std.specs.Prelude.{◌≡◌, IfOk};
 ghost use Rattle.c_typing.specs.Operands as spec;

@@ -1,4 +1,5 @@
-//! What is done with the value of an operand (C11 6.3).
+//! What is done with the value of an operand (C11 6.3): it is read, dropped, or converted
+//! to another type.
 
 ghost use Rattle.std.specs.Prelude.{◌≡◌, [], ◌∷◌, IfOk};
 ghost use Rattle.c_tree.specs.declared.typed.expression.TExpr.TheVariants as x;
