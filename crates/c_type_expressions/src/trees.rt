@@ -1,4 +1,5 @@
-//! Parts of typed trees that several rows make: the trees of converted operands, and lists with one more item.
+//! Parts of typed trees that several rows make: the trees of converted operands, and lists
+//! with one more item.
 
 ghost use Rattle.std.specs.Prelude.{◌≡◌, ◌∷◌, ◌++◌, [], IfOk};
 ghost use Rattle.c_typing.specs.Operands as operands;
