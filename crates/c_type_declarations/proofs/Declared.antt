@@ -1,4 +1,5 @@
 -- A whole declaration.
+-- The answer of `declaration_row` cites it.
 use Rattle.std.proofs.Common.{◌≡◌, refl, subst, Bool, true, false, IsTrue, ◌↔◌, List, [], ◌∷◌, Option, Some, None, map}
 use Rattle.c_tree.specs.declared.declaration.InitDeclarator.{InitDeclarator}
 use Rattle.c_tree.specs.declared.declaration.Declaration.{Declaration}

@@ -1,4 +1,5 @@
 -- Walks in a row, walked one by one.
+-- The loops over declarators, block items and outer declarations go on by `further`, and end by `ended`.
 use Rattle.std.proofs.Common.{◌≡◌, ◌∙◌, refl, ap, sym, subst, ℕ, suc, ◌+◌, ◌<◌, List, [], ◌∷◌, ◌++◌, Option, Some, None, drop, drop-cons, get_or, length, map, add-one, append_assoc}
 use Rattle.std.proofs.lemmas.List.{append-nil}
 use Rattle.c_typing.specs.declared.fault.Fault.{Fault}

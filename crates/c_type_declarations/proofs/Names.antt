@@ -1,4 +1,5 @@
 -- The typedef names of function types, where one more is declared.
+-- The answer of `add` cites it.
 use Rattle.std.proofs.Common.{◌≡◌, ◌∙◌, refl, ap, Bool, true, false, if◌then◌else◌, List, Option, Some, Result, Ok, Err, OnOk}
 use Rattle.std.specs.Str.{bytes_eq}
 use Rattle.c_typing.specs.Scopes.{Name, latest}

@@ -1,4 +1,5 @@
 -- Objects with an initialiser.
+-- The answers of `automatic`, `static_objects` and `linked_objects` cite these lemmas.
 use Rattle.std.proofs.Common.{◌≡◌, subst, [], ◌∷◌, ◌++◌, ℕ, Option, Some, None, Result, IfOk}
 use Rattle.word_ops.specs.declared.memory.Memory.{Memory}
 use Rattle.c_tree.specs.declared.expression.Identifier.{Identifier}

@@ -1,4 +1,5 @@
 -- What the types of `counting` stand for.
+-- The clauses of `counting` cite them, and those of `blocks` in c_type_statements.
 use Rattle.std.specs.Prelude.{Bool, if◌then◌else◌, List, Option, Some, None, map}
 use Rattle.c_tree.specs.declared.specifier.Storage.{Storage}
 use Rattle.c_typing.specs.declared.scope.Meaning.{Meaning}

@@ -1,4 +1,5 @@
 -- The parts of what a declaration of a name with linkage is asked, and what is kept of it.
+-- The clauses of `linkage` cite them.
 use Rattle.std.specs.Prelude.{Bool, ◌&&◌, ◌||◌, not, [], ◌∷◌, ◌++◌, Option}
 use Rattle.std.specs.Str.{bytes_eq}
 use Rattle.c_tree.specs.declared.typed.types.CType.{CType}

@@ -1,4 +1,5 @@
 -- Walks in a row, each of which gives a list.
+-- The clauses of `made` and `declarations` cite them.
 use Rattle.std.specs.Prelude.{List, ◌++◌, Option, Some, None}
 
 -- one list and then another, where both are there

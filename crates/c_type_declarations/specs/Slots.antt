@@ -1,4 +1,5 @@
 -- Where the next automatic or static object stands.
+-- The clauses of `automatic` and `static_objects` cite them.
 use Rattle.std.specs.Prelude.{ℕ, ◌+◌, Bool, [], ◌∷◌, ◌++◌, Option, Some, None, length}
 use Rattle.c_tree.specs.declared.typed.types.CType.{CType}
 use Rattle.c_tree.specs.declared.typed.statement.Initialiser.{Initialiser}

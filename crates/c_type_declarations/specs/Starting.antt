@@ -1,4 +1,5 @@
 -- The initialiser of a declarator, where one stands.
+-- The clauses of `starts`, of the three kinds of objects and of `declarations` cite it.
 use Rattle.std.specs.Prelude.{Option}
 use Rattle.std.specs.Option.{option_map}
 use Rattle.c_tree.specs.declared.declaration.Initialiser.{Initialiser}

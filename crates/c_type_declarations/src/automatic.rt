@@ -1,4 +1,5 @@
 //! Declarations of automatic objects (C11 6.2.4p5).
+//! Rows from the type of a declarator on; its initialiser is walked over by c_type_initialisers.
 
 ghost use Rattle.std.specs.Prelude.{◌≡◌, ◌∷◌, [], ◌++◌, IfOk, OnOk, Some, None};
 ghost use Rattle.std.specs.Option.{option_copied};

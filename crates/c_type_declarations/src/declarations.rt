@@ -1,4 +1,5 @@
 //! Declarations (C11 6.7): what each declarator with its initialiser declares, and where.
+//! Walks over specifiers, declarators and initialisers in turn; the rows stand in the files beside it.
 
 ghost use Rattle.std.specs.Prelude.{◌≡◌, IfOk, false, map, unwrap_or};
 ghost use Rattle.std.specs.Option.{option_copied, option_map};

@@ -1,4 +1,5 @@
 //! Names with linkage (C11 6.2.2): what their declarations have to agree with, and what is kept of them.
+//! Rows: told a name and a type, they compare and keep them.
 
 ghost use Rattle.std.specs.Prelude.{◌≡◌, ◌++◌, ◌∷◌, [], IfOk, OnOk};
 ghost use Rattle.std.specs.Option.{option_copied};

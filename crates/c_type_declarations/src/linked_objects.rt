@@ -1,4 +1,5 @@
 //! Declarations with linkage: functions, file-level objects and externs (C11 6.2.2p4, p5, 6.9.2).
+//! Rows from the type of a declarator on; its initialiser is walked over by c_type_initialisers.
 
 ghost use Rattle.std.specs.Prelude.{None, Some, false};
 ghost use Rattle.std.specs.Option.{option_copied};

@@ -1,4 +1,5 @@
 //! What walks in a row come to.
+//! No walk: what two of them gave, put together.
 
 ghost use Rattle.std.specs.Prelude.{◌≡◌, [], ◌∷◌, IfOk};
 ghost use Rattle.c_type_declarations.specs.Rows as rows;

@@ -1,4 +1,5 @@
 //! Objects: what is known of one by its type (C11 6.2.4, 6.2.8, 6.5.3.4), and the size that an initialiser tells.
+//! No walk: each answers one question of a type or an initialiser.
 
 ghost use Rattle.std.specs.Prelude.{◌≡◌, IfOk};
 ghost use Rattle.c_typing.specs.Declarations as spec;

@@ -1,4 +1,5 @@
 //! When a name may be declared a second time (C11 6.7p3, p4, 6.9p3, p5).
+//! Rows: told what the name stands for already.
 
 ghost use Rattle.std.specs.Prelude.{◌≡◌, IfOk};
 ghost use Rattle.std.specs.Option.{option_copied};

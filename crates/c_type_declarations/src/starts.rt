@@ -1,4 +1,5 @@
 //! What an initialiser may fill, and where none may stand (C11 6.7.9).
+//! Walks over an initialiser, by c_type_initialisers, where one stands.
 
 ghost use Rattle.std.specs.Option.{option_copied};
 ghost use Rattle.c_typing.specs.Declarations as spec;

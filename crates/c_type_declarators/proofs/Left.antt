@@ -1,4 +1,5 @@
 -- A loop over the items of a walk, as far as it has come.
+-- The invariant of the loop of `derive` says it.
 use Rattle.std.proofs.Common.{◌≡◌, ◌++◌}
 use Rattle.c_typing.specs.Scopes.{Said}
 use Rattle.c_type_walk.specs.declared.found.Found.{Found}

@@ -1,4 +1,5 @@
 -- The names of members.
+-- The answer of `tell_repeated` cites these lemmas.
 use Rattle.std.proofs.Common.{◌≡◌, ◌||◌, [], ◌∷◌, List, ℕ, refl, ap}
 use Rattle.std.specs.List.{list_any}
 use Rattle.std.specs.Str.{bytes_eq}

@@ -1,4 +1,5 @@
 -- Words as a sign, a kind and `int` name the type that the table gives them (C11 6.7.2p2).
+-- The answer of `named_by_words` cites it.
 use Rattle.std.proofs.Common.{◌≡◌, ◌∙◌, ℕ, ◌+◌, ◌≤◌, Bool, true, false, ◌&&◌, ◌||◌, nat_lt, List, [], ◌∷◌, ◌++◌, Option, Some, None, refl, ap, arith}
 use Rattle.std.proofs.Math.Path.{fun_ext}
 use Rattle.std.specs.Prelude.{◌==◌, cond, find, if◌then◌else◌}

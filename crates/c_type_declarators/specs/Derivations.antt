@@ -1,4 +1,5 @@
 -- The bytes of arrays.
+-- The clauses of `derivations` cite them.
 use Rattle.std.specs.Prelude.{ℕ, ◌*◌, ◌^◌, nat_lt, Bool, false, Option, Some, None}
 
 -- so many elements of so many bytes have more bytes than a type may have

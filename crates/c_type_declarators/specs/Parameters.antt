@@ -1,4 +1,5 @@
 -- What the definition of typing makes of a parameter whose type is as adjusted.
+-- The clauses of `parameters` and of c_type_trees cite it.
 use Rattle.std.specs.Prelude.{ℕ, Bool, Option}
 use Rattle.c_tree.specs.declared.token.Pos.{Pos}
 use Rattle.c_tree.specs.declared.expression.Identifier.{Identifier}

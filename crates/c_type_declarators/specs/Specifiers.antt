@@ -1,4 +1,5 @@
 -- What specifiers are made of, as the definition of typing has it.
+-- The clauses of `specifiers` and of c_type_trees cite it.
 use Rattle.c_typing.specs.Declarators.{Parts}
 use Rattle.c_type_declarators.specs.declared.specifiers.SpecifierParts.{SpecifierParts}
 

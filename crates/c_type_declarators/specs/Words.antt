@@ -1,4 +1,5 @@
 -- Words that name a type, as a sign, a kind and `int`, each of which stands once at most (C11 6.7.2p2).
+-- The clauses of `words` cite them; that they are the table is shown in proofs/NamedByWords.
 use Rattle.std.specs.Prelude.{true, false, ◌||◌, not, ◌&&◌, if◌then◌else◌, List, [], ◌∷◌, Option, Some, None, is_some, is_none}
 use Rattle.std.specs.Option.{option_and_then}
 use Rattle.c_tree.specs.declared.specifier.TypeWord.{TypeWord}

@@ -1,4 +1,5 @@
 //! Integer constant expressions as sizes (C11 6.6p6, 6.7.6.2p1).
+//! Rows: told what an expression is, they fold it.
 
 ghost use Rattle.std.specs.Prelude.{◌≡◌};
 ghost use Rattle.c_typing.specs.Declarators as spec;

@@ -1,4 +1,5 @@
 //! What the parts of a declarator make of a type (C11 6.7.6).
+//! Rows: told the parts, they apply them one after the other.
 
 ghost use Rattle.std.specs.Prelude.{◌≡◌, ◌++◌, nat_lt, IfOk, length, map, reverse};
 ghost use Rattle.c_typing.specs.Declarators as spec;

@@ -1,4 +1,5 @@
 //! Enumerations (C11 6.7.2.2).
+//! Rows: an enumeration begins, and an enumerator is declared, from the value that was typed.
 
 ghost use Rattle.std.specs.Prelude.{◌≡◌, ◌+◌, ◌%◌, ◌^◌};
 ghost use Rattle.std.specs.Option.{option_copied, option_map};

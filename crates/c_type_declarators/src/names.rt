@@ -1,4 +1,5 @@
 //! Identifiers and their places.
+//! No rows: what stands for the name where there is none.
 
 ghost use Rattle.std.specs.Prelude.{◌≡◌, IfOk};
 ghost use Rattle.std.specs.Option.{option_copied};

@@ -1,4 +1,5 @@
 //! Parameters (C11 6.7.6.3).
+//! Rows: a parameter from its specifiers and its type, as adjusted.
 
 ghost use Rattle.std.specs.Prelude.{◌≡◌, IfOk};
 ghost use Rattle.std.specs.Option.{option_copied};

@@ -1,4 +1,5 @@
 //! Specifiers as a whole (C11 6.7.1 to 6.7.3).
+//! Rows: the parts that specifiers give, and the type and storage of all of them.
 
 ghost use Rattle.std.specs.Prelude.{◌≡◌, ◌++◌, ◌∷◌, [], true, OnOk};
 ghost use Rattle.std.specs.List.{list_any};

@@ -1,4 +1,5 @@
 //! Structures (C11 6.7.2.1).
+//! Rows: a structure begins, and ends with its members, from their names and types.
 
 ghost use Rattle.std.specs.Prelude.{◌≡◌, ◌++◌, [], length, nat_lt, true, IfOk, OnOk};
 ghost use Rattle.std.specs.List.{list_any};

@@ -1,4 +1,5 @@
 //! Tags (C11 6.7.2.3).
+//! Rows: a tag alone, or before a list.
 
 ghost use Rattle.c_typing.specs.Declarators as spec;
 ghost use Rattle.c_type_walk.specs.Walks.{Walks};

@@ -1,4 +1,5 @@
 //! The types that words name (C11 6.7.2p2).
+//! A row: the table of the words, by a sign, a kind and `int`.
 
 ghost use Rattle.std.specs.Prelude.{◌≡◌};
 ghost use Rattle.c_typing.specs.Declarators as spec;

@@ -1,4 +1,5 @@
 -- Scalars and strings in braces.
+-- The answers of `fill` and `braced_string` cite these lemmas.
 use Rattle.std.proofs.Common.{◌≡◌, ◌∙◌, refl, sym, ap, ℕ, true, false, eqb, List, [], ◌∷◌, length, get_or, map, Option, None, Result, Ok, Err, IfOk, Bor, arith, eqb-true}
 use Rattle.std.proofs.lemmas.Bool.{eqb-false}
 use Rattle.std.specs.Option.{option_copied, option_map}

@@ -1,4 +1,5 @@
 -- One step of the way to the part that an expression initialises.
+-- The answers of `descend` cite it.
 use Rattle.std.proofs.Common.{◌≡◌, refl, ℕ, zero, suc, Bool, true, false, List, ◌∷◌, Some, None}
 use Rattle.c_tree.specs.declared.typed.types.CType.{CType}
 use Rattle.c_layout.specs.Tags.{Structs}

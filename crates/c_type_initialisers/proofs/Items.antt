@@ -1,4 +1,5 @@
 -- Where an item stands, and what it fills.
+-- The answers of `fill` and `expression_item` cite these lemmas.
 use Rattle.std.proofs.Common.{◌≡◌, ◌∙◌, sym, ap, subst, ℕ, Bool, false, List, Option, Some, None, Result, map}
 use Rattle.std.specs.Prelude.{if◌then◌else◌}
 use Rattle.std.specs.Option.{option_map}

@@ -1,4 +1,5 @@
 -- One turn of each loop over a list.
+-- The answers of `fill`, `initials_row` and `starts_row` cite these lemmas.
 use Rattle.std.proofs.Common.{◌≡◌, ◌∙◌, sym, ap, subst, List, [], ◌∷◌, ◌++◌, Option, Some, None, reverse}
 use Rattle.c_tree.specs.declared.token.Pos.{Pos}
 use Rattle.c_tree.specs.declared.typed.statement.Initial.{Initial}

@@ -1,4 +1,5 @@
 -- Walks over lists, item by item: what is left of a walk from here.
+-- The loops of `fill`, `initials_row` and `starts_row` go on by these lemmas.
 use Rattle.std.proofs.Common.{◌≡◌, ◌∙◌, refl, sym, ap, List, [], ◌∷◌, ◌++◌, Option, Some, None, append_assoc}
 use Rattle.std.specs.Option.{option_map}
 use Rattle.std.proofs.lemmas.List.{append-nil}

@@ -1,4 +1,5 @@
 -- The address that an expression with steps is, over the plain list of its steps.
+-- The answers of `addresses` cite it.
 use Rattle.std.proofs.Common.{◌≡◌, refl, ap, ◌∙◌, ℕ, List, [], ◌∷◌, ◌++◌}
 use Rattle.std.specs.Prelude.{Option}
 use Rattle.std.specs.Option.{option_and_then}

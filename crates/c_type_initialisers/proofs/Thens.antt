@@ -1,4 +1,5 @@
 -- Walks one behind the other, and what code ensures of them.
+-- `Braced` and `Items` cite these lemmas.
 use Rattle.std.proofs.Common.{◌≡◌, ◌∙◌, refl, sym, ap, List, ◌++◌, Option, Some, None, Result, Ok, Err, append_assoc}
 use Rattle.std.specs.Option.{option_map}
 use Rattle.std.proofs.lemmas.List.{append-nil}

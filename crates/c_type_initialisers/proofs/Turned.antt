@@ -1,4 +1,5 @@
 -- Lists from their other end.
+-- `Loops` cites these lemmas, and so do the answers of `descend` and `passed_of`.
 use Rattle.std.proofs.Common.{◌≡◌, ◌∙◌, ap, refl, List, [], ◌∷◌, ◌++◌}
 use Rattle.std.specs.Prelude.{reverse, slice_get, Some, None}
 use Rattle.std.proofs.lemmas.List.{reverse-append}

@@ -1,4 +1,5 @@
 -- The items of a list, as typed.
+-- `Braced` and the answers of `fill` cite it.
 use Rattle.std.proofs.Common.{◌≡◌, ◌∙◌, sym, ap, ℕ, suc, ◌+◌, ◌<◌, List, [], ◌∷◌, length, get_or, drop, map, drop-cons, add-one, arith}
 use Rattle.c_tree.specs.declared.declaration.InitialiserItem.{InitialiserItem, out-InitialiserItem}
 use Rattle.c_typing.specs.Initialisers.{initialiser_typing, initialiser_item_typing, initialiser_item_typing-is}

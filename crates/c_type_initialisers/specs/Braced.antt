@@ -1,4 +1,5 @@
 -- What stands in braces around a scalar or a string (C11 6.7.9p11, p14).
+-- The clauses of `initialisers` and `leaves` cite them.
 use Rattle.std.specs.Prelude.{if◌then◌else◌, [], ◌∷◌, ◌++◌, Option, Some, None}
 use Rattle.c_tree.specs.declared.token.Pos.{Pos}
 use Rattle.c_tree.specs.declared.refusal.FaultKind.TheVariants as kind

@@ -1,4 +1,5 @@
 -- What lists come to that are there only where nothing is wrong.
+-- The clauses of `starts` and `values` cite them.
 use Rattle.std.specs.Prelude.{List, [], ◌∷◌, ◌++◌, Option, Some, None}
 
 -- one more item behind others

@@ -1,4 +1,5 @@
 -- The aggregates that are being filled, as code keeps them: the innermost last.
+-- The clauses of `frames`, `descent`, `expressions` and `initialisers` cite them.
 use Rattle.std.specs.Prelude.{List, Option, Some, None, Result, Ok, Err, reverse}
 use Rattle.word_ops.specs.declared.memory.Memory.{Memory}
 use Rattle.c_typing.specs.declared.initialiser.Frame.{Frame}

@@ -1,4 +1,5 @@
 -- Addresses that steps lead to, over a plain list of steps.
+-- The clauses of `addresses` cite them.
 use Rattle.std.specs.Prelude.{ℕ, List, [], ◌∷◌, ◌++◌, Option}
 use Rattle.std.specs.Option.{option_and_then}
 use Rattle.c_tree.specs.declared.typed.expression.TExpr.{TExpr}

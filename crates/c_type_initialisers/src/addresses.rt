@@ -1,4 +1,5 @@
 //! Address constants (C11 6.6p9).
+//! Rows: told a typed tree, they fold it to an address.
 
 ghost use Rattle.std.specs.Prelude.{◌≡◌, []};
 ghost use Rattle.std.specs.Option.{option_and_then};

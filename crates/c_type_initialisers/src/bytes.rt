@@ -1,4 +1,5 @@
 //! Bytes of static objects (C11 6.7.9p4, p10).
+//! No walk: the bytes of numbers and of strings, and the places that they fill.
 
 ghost use Rattle.std.specs.Prelude.{◌≡◌, ◌∷◌, [], IfOk};
 ghost use Rattle.c_typing.specs.Starts as spec;

@@ -1,4 +1,5 @@
 //! Which part an expression without braces initialises (C11 6.7.9p13, p14, p20).
+//! No walk of trees: down the type of a part, to the first part that the expression may initialise.
 
 ghost use Rattle.std.specs.Prelude.{◌≡◌, IfOk, OnOk};
 ghost use Rattle.c_type_initialisers.specs.Stacks.{stack};

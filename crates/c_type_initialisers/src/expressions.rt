@@ -1,4 +1,5 @@
 //! Expressions that initialise an object or a part of one (C11 6.7.9p11, p13, p14, p20).
+//! Walks over single expressions, by c_type_trees, and hands what they are to rows.
 
 ghost use Rattle.std.specs.Prelude.{◌≡◌, IfOk, Option, List, ℕ, is_some};
 ghost use Rattle.c_type_initialisers.specs.Stacks.{stack, placed};

@@ -1,4 +1,5 @@
 //! The aggregates that are being filled, the innermost last (C11 6.7.9p17 to p20).
+//! No walk of trees: the part that the next item initialises.
 
 ghost use Rattle.std.specs.Prelude.{◌≡◌, IfOk, OnOk};
 ghost use Rattle.c_type_initialisers.specs.Stacks.{stack};

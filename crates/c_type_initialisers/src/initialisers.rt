@@ -1,4 +1,5 @@
 //! Initialisers, and where the items of a list go (C11 6.7.9).
+//! Walks over the tree of an initialiser, item by item.
 
 ghost use Rattle.std.specs.Option.{option_copied, option_map};
 ghost use Rattle.std.specs.Prelude.{◌≡◌, map, IfOk, is_some};

@@ -1,4 +1,5 @@
 //! Parts of objects that are initialised.
+//! Rows: what an expression gives a part of a type.
 
 ghost use Rattle.std.specs.Option.{option_map};
 ghost use Rattle.std.specs.Prelude.{◌≡◌, ◌∷◌, [], Some, IfOk};

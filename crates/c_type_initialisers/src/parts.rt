@@ -1,4 +1,5 @@
 //! The parts of aggregates by their numbers (C11 6.7.9p17).
+//! No walk of trees: which type a part has, and where it lies.
 
 ghost use Rattle.std.specs.Prelude.{◌≡◌, ◌+◌, IfOk, slice_get};
 ghost use Rattle.c_tree.specs.declared.typed.types.Base.TheVariants as base;

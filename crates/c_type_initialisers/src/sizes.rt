@@ -1,4 +1,5 @@
 //! The sizes of static objects.
+//! No walk of trees: how many bytes have to be kept of one.
 
 ghost use Rattle.std.specs.Prelude.{◌≡◌};
 ghost use Rattle.c_type_walk.specs.Walks.{fixed};

@@ -1,4 +1,5 @@
 //! What the parts of a static object come to (C11 6.6p7, p9, 6.7.9p4, p10).
+//! Rows: told the items that a walk found, they give bytes and addresses, item by item.
 
 ghost use Rattle.std.specs.Prelude.{◌≡◌, IfOk};
 ghost use Rattle.c_type_initialisers.specs.Joined.{all_more};

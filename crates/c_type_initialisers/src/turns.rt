@@ -1,4 +1,5 @@
 //! Lists from the other end, so that their items can be taken one after another.
+//! No rows: `starts` and `values` begin with it.
 
 ghost use Rattle.std.specs.Prelude.{◌≡◌, IfOk, reverse};
 

@@ -1,4 +1,5 @@
 //! What the parts of an automatic object come to (C11 6.7.9p11, p13).
+//! Rows: told the items that a walk found, they give initial values, item by item.
 
 ghost use Rattle.std.specs.Prelude.{◌≡◌, IfOk};
 ghost use Rattle.c_type_initialisers.specs.Joined.{one_more};

@@ -1,4 +1,5 @@
 -- How many automatic objects the items of a block declare.
+-- The answer of `count_items` cites it.
 use Rattle.std.proofs.Common.{◌≡◌, ◌∙◌, refl, ap, ℕ, ◌+◌, ◌<◌, List, ◌∷◌, get_or, length, drop, map, arith}
 use Rattle.c_tree.specs.declared.statement.BlockItem.{BlockItem}
 use Rattle.c_typing.specs.Declarations.{FunctionNames}

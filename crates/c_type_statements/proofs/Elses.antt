@@ -1,4 +1,5 @@
 -- The `else`s of an `if`, of which some were walked: their scopes are still open.
+-- The answers of `others_row` cite these lemmas, by `Turns`.
 use Rattle.std.proofs.Common.{◌≡◌, ◌∙◌, refl, ap, sym, ℕ, ◌≤◌, ◌<◌, ⊎_elim, min, List, [], ◌∷◌, ◌++◌, Option, Some, None, take, length, append_assoc, arith}
 use Rattle.std.proofs.lemmas.Bool.{cases_lt}
 use Rattle.std.proofs.lemmas.List.{append-nil, length-take, take-take, take_all}

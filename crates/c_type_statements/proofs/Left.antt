@@ -1,4 +1,5 @@
 -- A walk of which a part was walked, and what is left of it.
+-- The loop of `parts_row` goes on by `behind`, and ends by `done`.
 use Rattle.std.proofs.Common.{◌≡◌, ◌∙◌, refl, ap, sym, List, ◌++◌, Option, append_assoc}
 use Rattle.c_typing.specs.declared.fault.Fault.{Fault}
 use Rattle.c_typing.specs.declared.scope.State.{State}

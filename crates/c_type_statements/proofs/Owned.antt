@@ -1,4 +1,5 @@
 -- What a block declares, once it ends.
+-- `Rows` cites it, of each statement that is a block.
 use Rattle.std.proofs.Common.{◌≡◌, ◌∙◌, ap, subst, ℕ, ◌+◌, List, [], ◌++◌, Option}
 use Rattle.std.specs.Option.{option_map}
 use Rattle.c_tree.specs.declared.typed.statement.Objects.{Objects}

@@ -1,4 +1,5 @@
 -- Each kind of statement, from what the walks of its parts gave.
+-- The answers of the walks cite these lemmas, each that of its function.
 use Rattle.std.proofs.Common.{◌≡◌, ◌∙◌, refl, ap, sym, subst, ℕ, Bool, true, false, List, [], ◌∷◌, ◌++◌, Option, Some, None, Result, IfOk, append_assoc}
 use Rattle.std.proofs.lemmas.List.{append-nil}
 use Rattle.std.specs.Option.{option_map, option_zip}

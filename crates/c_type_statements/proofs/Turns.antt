@@ -1,4 +1,5 @@
 -- One item of a block and one `else` further.
+-- The answers of `parts_row` and `others_row` cite these lemmas.
 use Rattle.std.proofs.Common.{◌≡◌, ◌∙◌, refl, ap, sym, subst, ℕ, ◌+◌, ◌<◌, ◌≤◌, Bool, true, false, ◌&&◌, List, [], ◌∷◌, ◌++◌, Option, Some, None, drop, get_or, length, map}
 use Rattle.std.proofs.lemmas.List.{append-nil, at_drop_all}
 use Rattle.std.specs.Option.{option_zip}

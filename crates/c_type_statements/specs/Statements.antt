@@ -1,4 +1,5 @@
 -- The parts of what statements come to, and what the types of `branches` and `switch` stand for.
+-- The clauses of all files of this crate but the walker and the calls cite them.
 use Rattle.std.specs.Prelude.{ℕ, ◌+◌, min, Bool, true, false, List, [], ◌∷◌, ◌++◌, Option, Some, None, Result, Ok, Err, take}
 use Rattle.word_ops.specs.declared.memory.Memory.{Memory}
 use Rattle.c_tree.specs.declared.token.Pos.{Pos}

@@ -1,4 +1,5 @@
 //! Blocks, and the objects that they declare (C11 6.8.2, 6.2.4p5).
+//! No walk of trees: it counts what a block declares, and begins and ends its objects.
 
 ghost use Rattle.std.specs.Prelude.{◌≡◌, IfOk, OnOk, map};
 ghost use Rattle.c_typing.specs.Declarations as declarations;

@@ -1,4 +1,5 @@
 //! The branches of an `if` (C11 6.8.4.1).
+//! No walk: the scopes that an `if` opens, and its branches from what their walks gave.
 
 ghost use Rattle.std.specs.Prelude.{◌≡◌, ◌∷◌, ◌++◌, [], IfOk};
 ghost use Rattle.std.specs.Option.{option_map};

@@ -1,4 +1,5 @@
 //! The public calls.
+//! Each begins a walk over items: it makes the walker and hands them to it.
 
 ghost use Rattle.std.specs.Prelude.{map};
 ghost use Rattle.c_typing.specs.OfStatements as spec;

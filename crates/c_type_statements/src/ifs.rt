@@ -1,12 +1,14 @@
 //! `if` with each `else` (C11 6.8.4.1).
+//! Walks over conditions and bodies in turn; the rows stand in `branches` and `whole`.
 
 ghost use Rattle.std.specs.Prelude.{map};
 ghost use Rattle.c_typing.specs.OfStatements as spec;
 ghost use Rattle.c_typing.specs.Statements.{stmt_typing, else_typing};
 ghost use Rattle.c_typing.specs.Trees.{expr_typing};
 ghost use Rattle.c_type_statements.specs.Statements as parts;
+ghost use Rattle.c_type_walk.specs.Nests.{Nests};
 ghost use Rattle.c_type_walk.specs.Walks.{Walks};
-ghost use Rattle.c_type_statements.specs.Nests.{Nests};
+ghost use Rattle.c_type_statements.specs.Nested.{WalksStmt};
 
 use crate::blocks::empty;
 use crate::branches::{Opened, both_branches, first_branch, if_of, with_one};
@@ -31,7 +33,7 @@ impl<F: Fn(Global, &mut Found, &Around<'_>, u64, &Stmt) -> Result<Option<TStmt>,
         body: &Stmt,
         others: &[Else],
     ) -> Result<Option<TStmt>, Memory>
-        requires { Nests self.now.more (F.pre self.now.inside) (F.post self.now.inside) }
+        requires { Nests WalksStmt self.now.more (F.pre self.now.inside) (F.post self.now.inside) }
         ensures { Walks (spec.if_row at (expr_typing condition.now) (stmt_typing body.now) (map else_typing others.now)) around.now found.old result found.new }
     {
         let within = around.in_scope(found);
@@ -50,7 +52,7 @@ impl<F: Fn(Global, &mut Found, &Around<'_>, u64, &Stmt) -> Result<Option<TStmt>,
         around: &Around<'_>,
         others: &[Else],
     ) -> Result<Option<(Items<Branch>, TStmt)>, Memory>
-        requires { Nests self.now.more (F.pre self.now.inside) (F.post self.now.inside) }
+        requires { Nests WalksStmt self.now.more (F.pre self.now.inside) (F.post self.now.inside) }
         ensures { Walks (spec.others_row (map else_typing others.now)) around.now found.old result found.new }
     {
         let mut within = *around;
@@ -82,7 +84,7 @@ impl<F: Fn(Global, &mut Found, &Around<'_>, u64, &Stmt) -> Result<Option<TStmt>,
         condition: &Expr,
         body: &Stmt,
     ) -> Result<Option<Branch>, Memory>
-        requires { Nests self.now.more (F.pre self.now.inside) (F.post self.now.inside) }
+        requires { Nests WalksStmt self.now.more (F.pre self.now.inside) (F.post self.now.inside) }
         ensures { Walks (parts.branch_row (spec.condition_row at (expr_typing condition.now)) (stmt_typing body.now)) around.now found.old result found.new }
     {
         let condition = condition_row(self.alloc, found, around, at, condition)?;

@@ -1,8 +1,10 @@
 //! The recursion on the statements that stand inside one another.
+//! Ends each walk of this crate: the one function that leads back to itself, with a count that goes down.
 
 ghost use Rattle.c_typing.specs.Statements.{stmt_typing};
+ghost use Rattle.c_type_walk.specs.Nests.{Nests};
 ghost use Rattle.c_type_walk.specs.Walks.{Walks};
-ghost use Rattle.c_type_statements.specs.Nests.{Nests};
+ghost use Rattle.c_type_statements.specs.Nested.{WalksStmt};
 
 use crate::values::{break_row, continue_row, expression_row, return_row};
 use crate::walker::Walker;
@@ -26,7 +28,7 @@ impl<F: Fn(Global, &mut Found, &Around<'_>, u64, &Stmt) -> Result<Option<TStmt>,
         around: &Around<'_>,
         tree: &Stmt,
     ) -> Result<Option<TStmt>, Memory>
-        requires { Nests self.now.more (F.pre self.now.inside) (F.post self.now.inside) }
+        requires { Nests WalksStmt self.now.more (F.pre self.now.inside) (F.post self.now.inside) }
         ensures { Walks (stmt_typing tree.now) around.now found.old result found.new }
     {
         match tree {

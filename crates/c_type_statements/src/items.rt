@@ -1,10 +1,12 @@
 //! Blocks and what stands in them (C11 6.8.2).
+//! Walks over declarations and statements in turn.
 
 ghost use Rattle.std.specs.Prelude.{map};
 ghost use Rattle.c_typing.specs.OfStatements as spec;
 ghost use Rattle.c_typing.specs.Statements.{block_item_typing};
+ghost use Rattle.c_type_walk.specs.Nests.{Nests};
 ghost use Rattle.c_type_walk.specs.Walks.{Walks};
-ghost use Rattle.c_type_statements.specs.Nests.{Nests};
+ghost use Rattle.c_type_statements.specs.Nested.{WalksStmt};
 
 use crate::blocks::{begin_objects, count_items, end_objects};
 use crate::walker::Walker;
@@ -26,7 +28,7 @@ impl<F: Fn(Global, &mut Found, &Around<'_>, u64, &Stmt) -> Result<Option<TStmt>,
         around: &Around<'_>,
         items: &[BlockItem],
     ) -> Result<Option<TStmt>, Memory>
-        requires { Nests self.now.more (F.pre self.now.inside) (F.post self.now.inside) }
+        requires { Nests WalksStmt self.now.more (F.pre self.now.inside) (F.post self.now.inside) }
         ensures { Walks (spec.block_row (map block_item_typing items.now)) around.now found.old result found.new }
     {
         let count = count_items(self.alloc, &found.state, items)?;
@@ -49,7 +51,7 @@ impl<F: Fn(Global, &mut Found, &Around<'_>, u64, &Stmt) -> Result<Option<TStmt>,
         around: &Around<'_>,
         items: &[BlockItem],
     ) -> Result<Option<Items<TStmt>>, Memory>
-        requires { Nests self.now.more (F.pre self.now.inside) (F.post self.now.inside) }
+        requires { Nests WalksStmt self.now.more (F.pre self.now.inside) (F.post self.now.inside) }
         ensures { Walks (spec.items_row (map block_item_typing items.now)) around.now found.old result found.new }
     {
         let mut made = Some(Items::new(self.alloc));
@@ -67,7 +69,7 @@ impl<F: Fn(Global, &mut Found, &Around<'_>, u64, &Stmt) -> Result<Option<TStmt>,
         around: &Around<'_>,
         item: &BlockItem,
     ) -> Result<Option<Items<TStmt>>, Memory>
-        requires { Nests self.now.more (F.pre self.now.inside) (F.post self.now.inside) }
+        requires { Nests WalksStmt self.now.more (F.pre self.now.inside) (F.post self.now.inside) }
         ensures { Walks (spec.item_row (block_item_typing item.now)) around.now found.old result found.new }
     {
         match item {

@@ -1,4 +1,5 @@
 //! Loops (C11 6.8.5).
+//! Walks over conditions and bodies; the rows stand in `whole`.
 
 ghost use Rattle.std.specs.Option.{option_copied, option_map};
 ghost use Rattle.c_typing.specs.Declarations as declarations;
@@ -6,8 +7,9 @@ ghost use Rattle.c_typing.specs.OfStatements as spec;
 ghost use Rattle.c_typing.specs.Scopes as scopes;
 ghost use Rattle.c_typing.specs.Statements.{stmt_typing};
 ghost use Rattle.c_typing.specs.Trees.{expr_typing};
+ghost use Rattle.c_type_walk.specs.Nests.{Nests};
 ghost use Rattle.c_type_walk.specs.Walks.{Walks};
-ghost use Rattle.c_type_statements.specs.Nests.{Nests};
+ghost use Rattle.c_type_statements.specs.Nested.{WalksStmt};
 
 use crate::blocks::{begin_objects, count_declared, end_objects};
 use crate::branches::with_one;
@@ -31,7 +33,7 @@ impl<F: Fn(Global, &mut Found, &Around<'_>, u64, &Stmt) -> Result<Option<TStmt>,
         around: &Around<'_>,
         tree: &Stmt,
     ) -> Result<Option<TStmt>, Memory>
-        requires { Nests self.now.more (F.pre self.now.inside) (F.post self.now.inside) }
+        requires { Nests WalksStmt self.now.more (F.pre self.now.inside) (F.post self.now.inside) }
         ensures { Walks (scopes.scoped (spec.in_loop (stmt_typing tree.now))) around.now found.old result found.new }
     {
         let within = Around {
@@ -51,7 +53,7 @@ impl<F: Fn(Global, &mut Found, &Around<'_>, u64, &Stmt) -> Result<Option<TStmt>,
         condition: &Expr,
         body: &Stmt,
     ) -> Result<Option<TStmt>, Memory>
-        requires { Nests self.now.more (F.pre self.now.inside) (F.post self.now.inside) }
+        requires { Nests WalksStmt self.now.more (F.pre self.now.inside) (F.post self.now.inside) }
         ensures { Walks (spec.while_row at (expr_typing condition.now) (stmt_typing body.now)) around.now found.old result found.new }
     {
         let within = around.in_scope(found);
@@ -70,7 +72,7 @@ impl<F: Fn(Global, &mut Found, &Around<'_>, u64, &Stmt) -> Result<Option<TStmt>,
         body: &Stmt,
         condition: &Expr,
     ) -> Result<Option<TStmt>, Memory>
-        requires { Nests self.now.more (F.pre self.now.inside) (F.post self.now.inside) }
+        requires { Nests WalksStmt self.now.more (F.pre self.now.inside) (F.post self.now.inside) }
         ensures { Walks (spec.do_row at (stmt_typing body.now) (expr_typing condition.now)) around.now found.old result found.new }
     {
         let within = around.in_scope(found);
@@ -92,7 +94,7 @@ impl<F: Fn(Global, &mut Found, &Around<'_>, u64, &Stmt) -> Result<Option<TStmt>,
         control: &ForControl,
         body: &Stmt,
     ) -> Result<Option<TStmt>, Memory>
-        requires { Nests self.now.more (F.pre self.now.inside) (F.post self.now.inside) }
+        requires { Nests WalksStmt self.now.more (F.pre self.now.inside) (F.post self.now.inside) }
         ensures { Walks (spec.for_row at (spec.controlling_of control.now) (stmt_typing body.now) (spec.heading_of control.now.head)) around.now found.old result found.new }
     {
         match &control.head {
@@ -113,7 +115,7 @@ impl<F: Fn(Global, &mut Found, &Around<'_>, u64, &Stmt) -> Result<Option<TStmt>,
         control: &ForControl,
         body: &Stmt,
     ) -> Result<Option<TStmt>, Memory>
-        requires { Nests self.now.more (F.pre self.now.inside) (F.post self.now.inside) }
+        requires { Nests WalksStmt self.now.more (F.pre self.now.inside) (F.post self.now.inside) }
         ensures { Walks (spec.for_row at (spec.controlling_of control.now) (stmt_typing body.now) (spec.First (option_map expr_typing (option_copied first.entry)))) around.now found.old result found.new }
     {
         let within = around.in_scope(found);
@@ -134,7 +136,7 @@ impl<F: Fn(Global, &mut Found, &Around<'_>, u64, &Stmt) -> Result<Option<TStmt>,
         control: &ForControl,
         body: &Stmt,
     ) -> Result<Option<TStmt>, Memory>
-        requires { Nests self.now.more (F.pre self.now.inside) (F.post self.now.inside) }
+        requires { Nests WalksStmt self.now.more (F.pre self.now.inside) (F.post self.now.inside) }
         ensures { Walks (spec.for_row at (spec.controlling_of control.now) (stmt_typing body.now) (spec.Declares (declarations.declared_of head.now))) around.now found.old result found.new }
     {
         let count = count_declared(self.alloc, found, head)?;
@@ -157,7 +159,7 @@ impl<F: Fn(Global, &mut Found, &Around<'_>, u64, &Stmt) -> Result<Option<TStmt>,
         control: &ForControl,
         body: &Stmt,
     ) -> Result<Option<TStmt>, Memory>
-        requires { Nests self.now.more (F.pre self.now.inside) (F.post self.now.inside) }
+        requires { Nests WalksStmt self.now.more (F.pre self.now.inside) (F.post self.now.inside) }
         ensures { Walks (spec.loop_row at (spec.controlling_of control.now) (stmt_typing body.now)) around.now found.old result found.new }
     {
         let condition = condition_if_any(

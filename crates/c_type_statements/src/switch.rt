@@ -1,4 +1,5 @@
 //! The labels and the parts of a `switch` (C11 6.8.4.2).
+//! No walk: what `switches` has passed of its labels, and the rows of a label.
 
 ghost use Rattle.std.specs.Prelude.{◌≡◌, ◌++◌, ◌==◌, IfOk, OnOk};
 ghost use Rattle.std.specs.List.{list_any};

@@ -1,4 +1,5 @@
 //! `switch` (C11 6.8.4.2).
+//! Walks over the items of its body, part by part; the rows stand in `switch`.
 
 ghost use Rattle.std.specs.Prelude.{true, map};
 ghost use Rattle.c_typing.specs.OfStatements as spec;
@@ -6,8 +7,9 @@ ghost use Rattle.c_typing.specs.Statements.{block_item_typing};
 ghost use Rattle.c_typing.specs.Trees.{expr_typing};
 ghost use Rattle.c_type_statements.specs.Statements as parts;
 ghost use Rattle.c_type_statements.specs.Statements.{WalksPart, parting_of};
+ghost use Rattle.c_type_walk.specs.Nests.{Nests};
 ghost use Rattle.c_type_walk.specs.Walks.{Walks};
-ghost use Rattle.c_type_statements.specs.Nests.{Nests};
+ghost use Rattle.c_type_statements.specs.Nested.{WalksStmt};
 
 use crate::blocks::{begin_objects, count_items, end_objects};
 use crate::switch::{Parting, case_row, default_row};
@@ -32,7 +34,7 @@ impl<F: Fn(Global, &mut Found, &Around<'_>, u64, &Stmt) -> Result<Option<TStmt>,
         condition: &Expr,
         items: &[BlockItem],
     ) -> Result<Option<TStmt>, Memory>
-        requires { Nests self.now.more (F.pre self.now.inside) (F.post self.now.inside) }
+        requires { Nests WalksStmt self.now.more (F.pre self.now.inside) (F.post self.now.inside) }
         ensures { Walks (spec.switch_row at (expr_typing condition.now) (map block_item_typing items.now)) around.now found.old result found.new }
     {
         let within = around.in_scope(found);
@@ -49,7 +51,7 @@ impl<F: Fn(Global, &mut Found, &Around<'_>, u64, &Stmt) -> Result<Option<TStmt>,
         around: &Around<'_>,
         items: &[BlockItem],
     ) -> Result<Option<(Objects, Items<Part>)>, Memory>
-        requires { Nests self.now.more (F.pre self.now.inside) (F.post self.now.inside) }
+        requires { Nests WalksStmt self.now.more (F.pre self.now.inside) (F.post self.now.inside) }
         ensures { Walks (parts.switch_body (map block_item_typing items.now)) around.now found.old result found.new }
     {
         let count = count_items(self.alloc, &found.state, items)?;
@@ -72,7 +74,7 @@ impl<F: Fn(Global, &mut Found, &Around<'_>, u64, &Stmt) -> Result<Option<TStmt>,
         around: &Around<'_>,
         items: &[BlockItem],
     ) -> Result<Option<Items<Part>>, Memory>
-        requires { Nests self.now.more (F.pre self.now.inside) (F.post self.now.inside) }
+        requires { Nests WalksStmt self.now.more (F.pre self.now.inside) (F.post self.now.inside) }
         ensures { Walks (spec.parts_row spec.no_parts true (map block_item_typing items.now)) around.now found.old result found.new }
     {
         let mut parting = Parting::new(self.alloc);
@@ -95,7 +97,7 @@ impl<F: Fn(Global, &mut Found, &Around<'_>, u64, &Stmt) -> Result<Option<TStmt>,
         parting: &mut Parting,
         item: &BlockItem,
     ) -> Result<bool, Memory>
-        requires { Nests self.now.more (F.pre self.now.inside) (F.post self.now.inside) }
+        requires { Nests WalksStmt self.now.more (F.pre self.now.inside) (F.post self.now.inside) }
         ensures { WalksPart (spec.part_row (parting_of parting.old) (block_item_typing item.now)) around.now found.old parting.new result found.new }
     {
         match item {
@@ -116,7 +118,7 @@ impl<F: Fn(Global, &mut Found, &Around<'_>, u64, &Stmt) -> Result<Option<TStmt>,
         parting: &mut Parting,
         item: &BlockItem,
     ) -> Result<bool, Memory>
-        requires { Nests self.now.more (F.pre self.now.inside) (F.post self.now.inside) }
+        requires { Nests WalksStmt self.now.more (F.pre self.now.inside) (F.post self.now.inside) }
         ensures { WalksPart (parts.stated_row (parting_of parting.old) (block_item_typing item.now)) around.now found.old parting.new result found.new }
     {
         let Some(made) = self.item_row(found, around, item)? else {

@@ -1,4 +1,5 @@
 //! Expressions in statements, and jumps (C11 6.8.3, 6.8.4, 6.8.5, 6.8.6).
+//! Walks over single expressions, by c_type_trees, and hands what they are to rows of c_type_expressions.
 
 ghost use Rattle.std.specs.Prelude.{None, Some};
 ghost use Rattle.std.specs.Option.{option_copied, option_map};

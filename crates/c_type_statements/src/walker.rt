@@ -1,9 +1,11 @@
 //! The walker, and a statement that stands inside another.
+//! Walks by the function value that the walker holds, so that none of them leads back to itself.
 
 ghost use Rattle.c_typing.specs.Scopes as scopes;
 ghost use Rattle.c_typing.specs.Statements.{stmt_typing};
+ghost use Rattle.c_type_walk.specs.Nests.{Nests};
 ghost use Rattle.c_type_walk.specs.Walks.{Walks};
-ghost use Rattle.c_type_statements.specs.Nests.{Nests};
+ghost use Rattle.c_type_statements.specs.Nested.{WalksStmt};
 
 use c_tree::Stmt;
 use c_tree::typed::TStmt;
@@ -29,7 +31,7 @@ impl<F: Fn(Global, &mut Found, &Around<'_>, u64, &Stmt) -> Result<Option<TStmt>,
         around: &Around<'_>,
         tree: &Stmt,
     ) -> Result<Option<TStmt>, Memory>
-        requires { Nests self.now.more (F.pre self.now.inside) (F.post self.now.inside) }
+        requires { Nests WalksStmt self.now.more (F.pre self.now.inside) (F.post self.now.inside) }
         ensures { Walks (stmt_typing tree.now) around.now found.old result found.new }
     {
         (self.inside)(self.alloc, found, around, self.more, tree)
@@ -42,7 +44,7 @@ impl<F: Fn(Global, &mut Found, &Around<'_>, u64, &Stmt) -> Result<Option<TStmt>,
         around: &Around<'_>,
         tree: &Stmt,
     ) -> Result<Option<TStmt>, Memory>
-        requires { Nests self.now.more (F.pre self.now.inside) (F.post self.now.inside) }
+        requires { Nests WalksStmt self.now.more (F.pre self.now.inside) (F.post self.now.inside) }
         ensures { Walks (scopes.scoped (stmt_typing tree.now)) around.now found.old result found.new }
     {
         let within = around.in_scope(found);

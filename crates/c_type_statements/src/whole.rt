@@ -1,4 +1,5 @@
 //! Statements of their parts, where all of these are there (C11 6.8).
+//! No walk: each makes one statement of what the walks of its parts gave.
 
 ghost use Rattle.std.specs.Prelude.{◌≡◌, ◌∷◌, [], IfOk};
 ghost use Rattle.std.specs.Option.{option_map};

@@ -1,4 +1,5 @@
 -- What is left to do of a walk, from a place where typing has found something already.
+-- `Walks` of a row is shown by it call by call: `step`, and at the end `done` or `tail`.
 use Rattle.std.specs.Prelude.{◌≡◌, List, ◌++◌, Option, Result, Ok, Err, IfOk, refl}
 use Rattle.std.specs.Option.{option_map}
 use Rattle.std.proofs.Common.{sym, ◌∙◌, ap, append_assoc, append-nil}

@@ -1,4 +1,5 @@
 -- Each kind of node, from what the walks of its parts gave.
+-- The answers of functions without a loop cite these lemmas, and those of `Nodes`.
 use Rattle.std.specs.Prelude.{◌≡◌, ℕ, Bool, false, List, [], ◌∷◌, Option, Some, None, Result, map, length, slice_get, refl}
 use Rattle.std.specs.Option.{option_map}
 use Rattle.std.proofs.Common.{ap, sym, ◌∙◌, subst, arith}

@@ -1,4 +1,5 @@
 -- Each expression begins with an operand, or is one of the others.
+-- The answers of `expression`, `behind`, `other` and `first_operand` cite these lemmas.
 use Rattle.std.specs.Prelude.{◌≡◌, ℕ, List, [], ◌∷◌, ◌++◌, Option, Some, None, Result}
 use Rattle.std.specs.Borrow.{Bor}
 use Rattle.std.proofs.Common.{ap, sym, ◌∙◌, subst}

@@ -1,4 +1,5 @@
 -- The first item of a list.
+-- `Arms` cites it, of operators that begin with a first one.
 use Rattle.std.specs.Prelude.{◌≡◌, List, [], ◌∷◌, Some, None, slice_get, refl}
 use Rattle.std.proofs.Common.{ap}
 

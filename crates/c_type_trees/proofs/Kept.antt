@@ -1,4 +1,5 @@
 -- One turn of a loop over a list, for what is left behind it.
+-- All rounds over lists of trees cite it.
 use Rattle.std.specs.Prelude.{◌≡◌, ℕ, suc, ◌+◌, ◌<◌, ◌≤◌, List, [], ◌∷◌, map, length, drop}
 use Rattle.std.proofs.Common.{ap, sym, ◌∙◌, get_or, add-one}
 use Rattle.std.proofs.Math.Seq.{drop-cons}

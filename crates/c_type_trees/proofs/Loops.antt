@@ -1,4 +1,5 @@
 -- One turn of a loop over a list of walks, and what is left behind it.
+-- Of items that are gathered, kept where each is given, or members: the rounds cite these lemmas.
 use Rattle.std.specs.Prelude.{◌≡◌, List, [], ◌∷◌, ◌++◌, Option, Some, None, refl}
 use Rattle.std.specs.Option.{option_map}
 use Rattle.std.proofs.Common.{ap, append_assoc, append-nil}

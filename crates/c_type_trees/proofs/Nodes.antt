@@ -1,4 +1,5 @@
 -- What single nodes come to, of which a part was walked.
+-- The answers of functions without a loop cite these lemmas, and those of `Arms`.
 use Rattle.std.specs.Prelude.{◌≡◌, ℕ, Bool, false, ◌&&◌, not, is_some, List, [], ◌∷◌, ◌++◌, Option, Some, None, Result, IfOk, map, reverse, refl}
 use Rattle.std.specs.Option.{option_map}
 use Rattle.std.proofs.Common.{ap, sym, ◌∙◌, subst, append-nil}

@@ -1,4 +1,5 @@
 -- One turn of each loop that takes from the right end of a list, and what is left behind it.
+-- The answers of `prefixed_by`, `chosen_by` and `assigned_by` cite these lemmas.
 use Rattle.std.specs.Prelude.{◌≡◌, List, [], ◌∷◌, ◌++◌, Option, map}
 use Rattle.std.specs.Option.{option_map}
 use Rattle.std.proofs.Common.{ap, ◌∙◌}

@@ -1,4 +1,5 @@
 -- The walk of a parameter list that is a scope of its own.
+-- The answer of `prototype` cites it.
 use Rattle.std.specs.Prelude.{◌≡◌, false, Option, length}
 use Rattle.std.proofs.Common.{ap, subst, ◌∙◌}
 use Rattle.c_typing.specs.Scopes as scopes

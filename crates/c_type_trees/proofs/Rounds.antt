@@ -1,4 +1,5 @@
 -- One turn of each loop of the walk over a list of trees, from what its calls gave.
+-- The answers of loops cite these lemmas, each that of its function.
 use Rattle.std.specs.Prelude.{◌≡◌, ℕ, ◌+◌, ◌%◌, ◌^◌, ◌<◌, Bool, false, List, [], ◌∷◌, ◌++◌, Option, Some, map, length, drop}
 use Rattle.std.specs.Option.{option_map}
 use Rattle.std.proofs.Common.{sym, ◌∙◌, ap, get_or}

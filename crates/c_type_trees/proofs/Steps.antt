@@ -1,4 +1,5 @@
 -- Each function of the walk, call by call: how it begins, one turn of its loop, and how it ends.
+-- `Rounds`, `Arms` and `Nodes` cite these lemmas, which speak of single walks and of no list of trees.
 use Rattle.std.specs.Prelude.{◌≡◌, ℕ, ◌+◌, ◌%◌, ◌^◌, Bool, false, List, [], ◌∷◌, ◌++◌, Option, Some, None}
 use Rattle.std.specs.Option.{option_map}
 use Rattle.std.proofs.Common.{◌∙◌}

@@ -1,4 +1,5 @@
 -- One turn of each loop over operators, specifiers and enumerators, and what is left behind it.
+-- Of walks alone: equations between what is left before and behind a turn.
 use Rattle.std.specs.Prelude.{◌≡◌, ℕ, Bool, List, [], ◌∷◌, ◌++◌, Option, Some, None, reverse, refl}
 use Rattle.std.specs.Option.{option_map}
 use Rattle.std.proofs.Common.{ap, append-nil}

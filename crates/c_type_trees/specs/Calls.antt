@@ -1,4 +1,5 @@
 -- Calls of names, strings and `sizeof`, as one walk each.
+-- The clauses of `names`, `operands`, `prefixes` and `suffixes` cite them.
 use Rattle.std.specs.Prelude.{Bool, true, false, if◌then◌else◌, List, [], ◌∷◌, ◌++◌, Option, None, map}
 use Rattle.c_tree.specs.declared.token.Pos.{Pos}
 use Rattle.c_tree.specs.declared.expression.Identifier.{Identifier}

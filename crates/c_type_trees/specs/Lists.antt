@@ -1,4 +1,5 @@
 -- Lists of what is given, and members in a row.
+-- The clauses of `members`, `parameters`, `sequences` and `types` cite them.
 use Rattle.std.specs.Prelude.{Bool, if◌then◌else◌, List, [], ◌∷◌, ◌++◌, Option, Some, None}
 use Rattle.std.specs.Option.{option_map}
 use Rattle.c_typing.specs.Scopes.{Walk, offer, ◌>>=◌, in_row}

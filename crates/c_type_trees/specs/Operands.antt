@@ -1,4 +1,5 @@
 -- Expressions by what is walked first in them: an operand, or something else.
+-- The clauses of `expressions` and `names` cite them.
 use Rattle.std.specs.Prelude.{List, [], ◌∷◌, Option, Some, None, map}
 use Rattle.c_tree.specs.Layers.{ExprLayer}
 use Rattle.c_tree.specs.declared.declarator.DeclaratorSuffix.TheOpen.{Expr-F}

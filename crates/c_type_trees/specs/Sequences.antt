@@ -1,4 +1,5 @@
 -- Lists of operators, of parts and of members, as one walk each.
+-- The clauses of `operators`, `prefixes`, `sequences` and `types` cite them.
 use Rattle.std.specs.Prelude.{Bool, true, false, List, [], ◌∷◌, ◌++◌, Option, Some, None, map, reverse}
 use Rattle.std.specs.Option.{option_map}
 use Rattle.c_tree.specs.declared.token.Pos.{Pos}

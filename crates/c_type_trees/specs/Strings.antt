@@ -1,4 +1,5 @@
 -- The string that an expression is.
+-- A clause of `names` cites it.
 use Rattle.std.specs.Prelude.{ℕ, List, Option}
 use Rattle.std.specs.Option.{option_map}
 use Rattle.std.specs.Borrow.{Bor}

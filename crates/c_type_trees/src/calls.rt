@@ -1,4 +1,5 @@
 //! The public calls.
+//! Each begins a walk over a whole tree: it makes the walker and hands the tree to it.
 
 ghost use Rattle.std.specs.Prelude.{◌≡◌, map};
 ghost use Rattle.c_typing.specs.Declarators as declarators;

@@ -1,10 +1,12 @@
 //! Declarators (C11 6.7.6).
+//! Walks over declarators and what stands behind their middle; the rows stand in c_type_declarators.
 
 ghost use Rattle.std.specs.Prelude.{◌≡◌, map};
 ghost use Rattle.c_typing.specs.OfTrees as spec;
 ghost use Rattle.c_typing.specs.Trees as typing;
+ghost use Rattle.c_type_walk.specs.Nests.{Nests};
 ghost use Rattle.c_type_walk.specs.Walks.{Walks};
-ghost use Rattle.c_type_trees.specs.Nests.{Nests};
+ghost use Rattle.c_type_trees.specs.Nested.{WalksTree};
 
 use crate::names::{direct_makes, first_token};
 use crate::nested::{Tree, Typed};
@@ -27,7 +29,7 @@ impl<F: Fn(Global, &mut Found, &Around<'_>, u64, Tree<'_>) -> Result<Typed, Memo
         tree: &Declarator,
         defining: bool,
     ) -> Result<Option<Items<Part>>, Memory>
-        requires { Nests self.now.more (F.pre self.now.inside) (F.post self.now.inside) }
+        requires { Nests WalksTree self.now.more (F.pre self.now.inside) (F.post self.now.inside) }
         ensures { Walks ((typing.declarator_typing tree.now).parts defining) around.now found.old result found.new }
     {
         let makes = direct_makes(&tree.direct);
@@ -46,7 +48,7 @@ impl<F: Fn(Global, &mut Found, &Around<'_>, u64, Tree<'_>) -> Result<Typed, Memo
         tree: &Direct,
         defining: bool,
     ) -> Result<Option<Items<Part>>, Memory>
-        requires { Nests self.now.more (F.pre self.now.inside) (F.post self.now.inside) }
+        requires { Nests WalksTree self.now.more (F.pre self.now.inside) (F.post self.now.inside) }
         ensures { Walks ((typing.direct_typing tree.now).parts defining) around.now found.old result found.new }
     {
         match tree {
@@ -64,7 +66,7 @@ impl<F: Fn(Global, &mut Found, &Around<'_>, u64, Tree<'_>) -> Result<Typed, Memo
         list: &[DeclaratorSuffix],
         defining: bool,
     ) -> Result<Option<Items<Part>>, Memory>
-        requires { Nests self.now.more (F.pre self.now.inside) (F.post self.now.inside) }
+        requires { Nests WalksTree self.now.more (F.pre self.now.inside) (F.post self.now.inside) }
         ensures { Walks (spec.suffixes_parts defining (map typing.declarator_suffix_typing list.now)) around.now found.old result found.new }
     {
         let mut all = Some(Items::new(self.alloc));
@@ -85,7 +87,7 @@ impl<F: Fn(Global, &mut Found, &Around<'_>, u64, Tree<'_>) -> Result<Typed, Memo
         tree: &DeclaratorSuffix,
         defining: bool,
     ) -> Result<Option<Part>, Memory>
-        requires { Nests self.now.more (F.pre self.now.inside) (F.post self.now.inside) }
+        requires { Nests WalksTree self.now.more (F.pre self.now.inside) (F.post self.now.inside) }
         ensures { Walks ((typing.declarator_suffix_typing tree.now).part defining) around.now found.old result found.new }
     {
         match tree {

@@ -1,10 +1,12 @@
 //! An expression, by what stands first in it (C11 6.5).
+//! Walks over expressions, from the operand with which they begin; the rows stand in c_type_expressions.
 
 ghost use Rattle.std.specs.Prelude.{◌≡◌};
 ghost use Rattle.c_tree.specs.declared.expression.Expr.{out-Expr};
 ghost use Rattle.c_typing.specs.Trees as typing;
+ghost use Rattle.c_type_walk.specs.Nests.{Nests};
 ghost use Rattle.c_type_walk.specs.Walks.{Walks};
-ghost use Rattle.c_type_trees.specs.Nests.{Nests};
+ghost use Rattle.c_type_trees.specs.Nested.{WalksTree};
 ghost use Rattle.c_type_trees.specs.Operands as operands;
 
 use crate::names::first_operand;
@@ -27,7 +29,7 @@ impl<F: Fn(Global, &mut Found, &Around<'_>, u64, Tree<'_>) -> Result<Typed, Memo
         around: &Around<'_>,
         tree: &Expr,
     ) -> Result<Option<Operand>, Memory>
-        requires { Nests self.now.more (F.pre self.now.inside) (F.post self.now.inside) }
+        requires { Nests WalksTree self.now.more (F.pre self.now.inside) (F.post self.now.inside) }
         ensures { Walks (typing.expr_typing tree.now).typed around.now found.old result found.new }
     {
         let mut begun = Items::new(self.alloc);
@@ -48,7 +50,7 @@ impl<F: Fn(Global, &mut Found, &Around<'_>, u64, Tree<'_>) -> Result<Typed, Memo
         mut begun: Items<&Expr>,
         first: Option<Operand>,
     ) -> Result<Option<Operand>, Memory>
-        requires { Nests self.now.more (F.pre self.now.inside) (F.post self.now.inside) }
+        requires { Nests WalksTree self.now.more (F.pre self.now.inside) (F.post self.now.inside) }
         ensures { Walks (operands.behind_all begun.entry first) around.now found.old result found.new }
     {
         let mut value = first;
@@ -65,7 +67,7 @@ impl<F: Fn(Global, &mut Found, &Around<'_>, u64, Tree<'_>) -> Result<Typed, Memo
         around: &Around<'_>,
         tree: &Expr,
     ) -> Result<Option<Operand>, Memory>
-        requires { Nests self.now.more (F.pre self.now.inside) (F.post self.now.inside) }
+        requires { Nests WalksTree self.now.more (F.pre self.now.inside) (F.post self.now.inside) }
         ensures { Walks (operands.other_row (out-Expr tree.now)) around.now found.old result found.new }
     {
         match tree {
@@ -96,7 +98,7 @@ impl<F: Fn(Global, &mut Found, &Around<'_>, u64, Tree<'_>) -> Result<Typed, Memo
         tree: &Expr,
         first: Option<Operand>,
     ) -> Result<Option<Operand>, Memory>
-        requires { Nests self.now.more (F.pre self.now.inside) (F.post self.now.inside) }
+        requires { Nests WalksTree self.now.more (F.pre self.now.inside) (F.post self.now.inside) }
         ensures { Walks (operands.behind_row (out-Expr tree.now) first) around.now found.old result found.new }
     {
         match tree {

@@ -1,7 +1,9 @@
 //! The recursion on the trees that stand inside one another.
+//! Ends each walk of this crate: the one function that leads back to itself, with a count that goes down.
 
 ghost use Rattle.std.specs.Prelude.{◌≡◌};
-ghost use Rattle.c_type_trees.specs.Nests.{Nests, WalksTree};
+ghost use Rattle.c_type_walk.specs.Nests.{Nests};
+ghost use Rattle.c_type_trees.specs.Nested.{WalksTree};
 
 use crate::nested::{Tree, Typed};
 use crate::walker::Walker;
@@ -12,7 +14,7 @@ use word_ops::Memory;
 impl<F: Fn(Global, &mut Found, &Around<'_>, u64, Tree<'_>) -> Result<Typed, Memory>> Walker<F> {
     /// What typing makes of a tree.
     fn tree(&self, found: &mut Found, around: &Around<'_>, tree: Tree<'_>) -> Result<Typed, Memory>
-        requires { Nests self.now.more (F.pre self.now.inside) (F.post self.now.inside) }
+        requires { Nests WalksTree self.now.more (F.pre self.now.inside) (F.post self.now.inside) }
         ensures { WalksTree tree.entry around.now found.old result found.new }
     {
         match tree {

@@ -1,11 +1,13 @@
 //! Structures and their members (C11 6.7.2.1).
+//! Walks over their members and declarators; the rows stand in c_type_declarators.
 
 ghost use Rattle.std.specs.Prelude.{◌≡◌, map};
 ghost use Rattle.c_typing.specs.Declarators as declarators;
 ghost use Rattle.c_typing.specs.Trees as typing;
+ghost use Rattle.c_type_walk.specs.Nests.{Nests};
 ghost use Rattle.c_type_walk.specs.Walks.{Walks};
 ghost use Rattle.c_type_trees.specs.Lists as lists;
-ghost use Rattle.c_type_trees.specs.Nests.{Nests};
+ghost use Rattle.c_type_trees.specs.Nested.{WalksTree};
 
 use crate::names::{NOWHERE, name};
 use crate::nested::{Tree, Typed};
@@ -29,7 +31,7 @@ impl<F: Fn(Global, &mut Found, &Around<'_>, u64, Tree<'_>) -> Result<Typed, Memo
         tag: &Option<Identifier>,
         list: &[Member],
     ) -> Result<Option<CType>, Memory>
-        requires { Nests self.now.more (F.pre self.now.inside) (F.post self.now.inside) }
+        requires { Nests WalksTree self.now.more (F.pre self.now.inside) (F.post self.now.inside) }
         ensures { Walks (declarators.struct_row word tag.now (map typing.member_typing list.now)) around.now found.old result found.new }
     {
         let number = struct_begun(self.alloc, found, around, tag.as_ref())?;
@@ -45,7 +47,7 @@ impl<F: Fn(Global, &mut Found, &Around<'_>, u64, Tree<'_>) -> Result<Typed, Memo
         around: &Around<'_>,
         list: &[Member],
     ) -> Result<Option<Items<NamedMember>>, Memory>
-        requires { Nests self.now.more (F.pre self.now.inside) (F.post self.now.inside) }
+        requires { Nests WalksTree self.now.more (F.pre self.now.inside) (F.post self.now.inside) }
         ensures { Walks (lists.all_in_row (map typing.member_typing list.now)) around.now found.old result found.new }
     {
         let mut all = Some(Items::new(self.alloc));
@@ -63,7 +65,7 @@ impl<F: Fn(Global, &mut Found, &Around<'_>, u64, Tree<'_>) -> Result<Typed, Memo
         around: &Around<'_>,
         tree: &Member,
     ) -> Result<Option<Items<NamedMember>>, Memory>
-        requires { Nests self.now.more (F.pre self.now.inside) (F.post self.now.inside) }
+        requires { Nests WalksTree self.now.more (F.pre self.now.inside) (F.post self.now.inside) }
         ensures { Walks (typing.member_typing tree.now) around.now found.old result found.new }
     {
         let basis = self.specifiers(found, around, false, tree.specifiers.as_slice())?;
@@ -78,7 +80,7 @@ impl<F: Fn(Global, &mut Found, &Around<'_>, u64, Tree<'_>) -> Result<Typed, Memo
         basis: &Option<Basis>,
         list: &[MemberDeclarator],
     ) -> Result<Option<Items<NamedMember>>, Memory>
-        requires { Nests self.now.more (F.pre self.now.inside) (F.post self.now.inside) }
+        requires { Nests WalksTree self.now.more (F.pre self.now.inside) (F.post self.now.inside) }
         ensures { Walks (lists.all_in_row (map (declarators.one_member basis.now) (map typing.member_declarator_typing list.now))) around.now found.old result found.new }
     {
         let mut all = Some(Items::new(self.alloc));
@@ -97,7 +99,7 @@ impl<F: Fn(Global, &mut Found, &Around<'_>, u64, Tree<'_>) -> Result<Typed, Memo
         basis: &Option<Basis>,
         tree: &MemberDeclarator,
     ) -> Result<Option<Items<NamedMember>>, Memory>
-        requires { Nests self.now.more (F.pre self.now.inside) (F.post self.now.inside) }
+        requires { Nests WalksTree self.now.more (F.pre self.now.inside) (F.post self.now.inside) }
         ensures { Walks (declarators.one_member basis.now (typing.member_declarator_typing tree.now)) around.now found.old result found.new }
     {
         let basis = copied_type(self.alloc, basis)?;

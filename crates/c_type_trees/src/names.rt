@@ -1,4 +1,5 @@
 //! What is known of a tree without typing it: its first token, and the name or the string that it is.
+//! No walk and no row: nothing is asked of the types, and no fault is told.
 
 ghost use Rattle.std.specs.Prelude.{◌≡◌, ◌++◌, ◌<◌, IfOk, IfSome, map};
 ghost use Rattle.std.specs.Option.{option_copied};

@@ -1,4 +1,5 @@
 //! What is asked of a tree that stands inside another, and what is given.
+//! The types of the one function value by which all walks of this crate go into a tree.
 
 use c_tree::{Declarator, Expr, Specifier};
 use c_typing::{Basis, Operand, Part};

@@ -1,4 +1,5 @@
 //! The rows of operators where a fault may stand in an operand: nothing is asked of that.
+//! No walk: each hands what the walks of its operands gave to a row of c_type_expressions.
 
 ghost use Rattle.std.specs.Prelude.{◌≡◌, Some, IfOk};
 ghost use Rattle.std.specs.Option.{option_map};

@@ -1,10 +1,12 @@
 //! Operators behind their first operand (C11 6.5.5 to 6.5.17).
+//! Walks over the operands of each level; the rows stand in c_type_expressions.
 
 ghost use Rattle.std.specs.Prelude.{◌≡◌, [], map};
 ghost use Rattle.c_typing.specs.OfTrees as spec;
 ghost use Rattle.c_typing.specs.Trees as typing;
+ghost use Rattle.c_type_walk.specs.Nests.{Nests};
 ghost use Rattle.c_type_walk.specs.Walks.{Walks};
-ghost use Rattle.c_type_trees.specs.Nests.{Nests};
+ghost use Rattle.c_type_trees.specs.Nested.{WalksTree};
 ghost use Rattle.c_type_trees.specs.Sequences as sequences;
 
 use crate::nested::{Tree, Typed};
@@ -31,7 +33,7 @@ impl<F: Fn(Global, &mut Found, &Around<'_>, u64, Tree<'_>) -> Result<Typed, Memo
         rest: &[Next],
         first: Option<Operand>,
     ) -> Result<Option<Operand>, Memory>
-        requires { Nests self.now.more (F.pre self.now.inside) (F.post self.now.inside) }
+        requires { Nests WalksTree self.now.more (F.pre self.now.inside) (F.post self.now.inside) }
         ensures { Walks (spec.level_row level first (map typing.next_typing rest.now)) around.now found.old result found.new }
     {
         match level {
@@ -49,7 +51,7 @@ impl<F: Fn(Global, &mut Found, &Around<'_>, u64, Tree<'_>) -> Result<Typed, Memo
         rest: &[Next],
         first: Option<Operand>,
     ) -> Result<Option<Operand>, Memory>
-        requires { Nests self.now.more (F.pre self.now.inside) (F.post self.now.inside) }
+        requires { Nests WalksTree self.now.more (F.pre self.now.inside) (F.post self.now.inside) }
         ensures { Walks (spec.binaries_row (map typing.next_typing rest.now) first) around.now found.old result found.new }
     {
         let mut value = first;
@@ -69,7 +71,7 @@ impl<F: Fn(Global, &mut Found, &Around<'_>, u64, Tree<'_>) -> Result<Typed, Memo
         rest: &[Next],
         first: Option<Operand>,
     ) -> Result<Option<Operand>, Memory>
-        requires { Nests self.now.more (F.pre self.now.inside) (F.post self.now.inside) }
+        requires { Nests WalksTree self.now.more (F.pre self.now.inside) (F.post self.now.inside) }
         ensures { Walks (spec.logical_row (sequences.logical_tree is_or) first (map typing.next_typing rest.now)) around.now found.old result found.new }
     {
         match rest.first() {
@@ -90,7 +92,7 @@ impl<F: Fn(Global, &mut Found, &Around<'_>, u64, Tree<'_>) -> Result<Typed, Memo
         rest: &[Next],
         done: Option<Items<TExpr>>,
     ) -> Result<Option<Items<TExpr>>, Memory>
-        requires { Nests self.now.more (F.pre self.now.inside) (F.post self.now.inside) }
+        requires { Nests WalksTree self.now.more (F.pre self.now.inside) (F.post self.now.inside) }
         ensures { Walks (spec.truths_row (map typing.next_typing rest.now) done) around.now found.old result found.new }
     {
         let mut all = done;
@@ -110,7 +112,7 @@ impl<F: Fn(Global, &mut Found, &Around<'_>, u64, Tree<'_>) -> Result<Typed, Memo
         rest: &[Branch],
         first: Option<Operand>,
     ) -> Result<Option<Operand>, Memory>
-        requires { Nests self.now.more (F.pre self.now.inside) (F.post self.now.inside) }
+        requires { Nests WalksTree self.now.more (F.pre self.now.inside) (F.post self.now.inside) }
         ensures { Walks (sequences.conditional_row (map typing.branch_typing rest.now) first) around.now found.old result found.new }
     {
         let mut choices = Items::new(self.alloc);
@@ -136,7 +138,7 @@ impl<F: Fn(Global, &mut Found, &Around<'_>, u64, Tree<'_>) -> Result<Typed, Memo
         rest: &[Next],
         first: Option<Operand>,
     ) -> Result<Option<Operand>, Memory>
-        requires { Nests self.now.more (F.pre self.now.inside) (F.post self.now.inside) }
+        requires { Nests WalksTree self.now.more (F.pre self.now.inside) (F.post self.now.inside) }
         ensures { Walks (sequences.assignment_row (map typing.next_typing rest.now) first) around.now found.old result found.new }
     {
         let mut left = Items::new(self.alloc);
@@ -160,7 +162,7 @@ impl<F: Fn(Global, &mut Found, &Around<'_>, u64, Tree<'_>) -> Result<Typed, Memo
         rest: &[Next],
         first: Option<Operand>,
     ) -> Result<Option<Operand>, Memory>
-        requires { Nests self.now.more (F.pre self.now.inside) (F.post self.now.inside) }
+        requires { Nests WalksTree self.now.more (F.pre self.now.inside) (F.post self.now.inside) }
         ensures { Walks (spec.commas_row (map typing.next_typing rest.now) [] first) around.now found.old result found.new }
     {
         let mut dropped = Some(Items::new(self.alloc));

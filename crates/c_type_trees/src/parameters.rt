@@ -1,11 +1,13 @@
 //! Parameter lists (C11 6.7.6.3).
+//! Walks over parameters, in a scope of their own where they declare; the rows stand in c_type_declarators.
 
 ghost use Rattle.std.specs.Prelude.{◌≡◌, map};
 ghost use Rattle.c_typing.specs.OfTrees as spec;
 ghost use Rattle.c_typing.specs.Trees as typing;
+ghost use Rattle.c_type_walk.specs.Nests.{Nests};
 ghost use Rattle.c_type_walk.specs.Walks.{Walks};
 ghost use Rattle.c_type_trees.specs.Lists as lists;
-ghost use Rattle.c_type_trees.specs.Nests.{Nests};
+ghost use Rattle.c_type_trees.specs.Nested.{WalksTree};
 
 use crate::names::{first_specifier, name};
 use crate::nested::{Tree, Typed};
@@ -35,7 +37,7 @@ impl<F: Fn(Global, &mut Found, &Around<'_>, u64, Tree<'_>) -> Result<Typed, Memo
         list: &[Parameter],
         defining: bool,
     ) -> Result<Option<Part>, Memory>
-        requires { Nests self.now.more (F.pre self.now.inside) (F.post self.now.inside) }
+        requires { Nests WalksTree self.now.more (F.pre self.now.inside) (F.post self.now.inside) }
         ensures { Walks (spec.listing defining (spec.parameters_row 0 (map typing.parameter_typing list.now))) around.now found.old result found.new }
     {
         let all = self.listed(found, around, list, defining)?;
@@ -50,7 +52,7 @@ impl<F: Fn(Global, &mut Found, &Around<'_>, u64, Tree<'_>) -> Result<Typed, Memo
         list: &[Parameter],
         defining: bool,
     ) -> Result<Option<Items<TypedParameter>>, Memory>
-        requires { Nests self.now.more (F.pre self.now.inside) (F.post self.now.inside) }
+        requires { Nests WalksTree self.now.more (F.pre self.now.inside) (F.post self.now.inside) }
         ensures { Walks (lists.listed defining (spec.parameters_row 0 (map typing.parameter_typing list.now))) around.now found.old result found.new }
     {
         if defining {
@@ -67,7 +69,7 @@ impl<F: Fn(Global, &mut Found, &Around<'_>, u64, Tree<'_>) -> Result<Typed, Memo
         around: &Around<'_>,
         list: &[Parameter],
     ) -> Result<Option<Items<TypedParameter>>, Memory>
-        requires { Nests self.now.more (F.pre self.now.inside) (F.post self.now.inside) }
+        requires { Nests WalksTree self.now.more (F.pre self.now.inside) (F.post self.now.inside) }
         ensures { Walks (spec.in_prototype (spec.parameters_row 0 (map typing.parameter_typing list.now))) around.now found.old result found.new }
     {
         let names = found.state.names.mark();
@@ -90,7 +92,7 @@ impl<F: Fn(Global, &mut Found, &Around<'_>, u64, Tree<'_>) -> Result<Typed, Memo
         around: &Around<'_>,
         list: &[Parameter],
     ) -> Result<Option<Items<TypedParameter>>, Memory>
-        requires { Nests self.now.more (F.pre self.now.inside) (F.post self.now.inside) }
+        requires { Nests WalksTree self.now.more (F.pre self.now.inside) (F.post self.now.inside) }
         ensures { Walks (spec.parameters_row 0 (map typing.parameter_typing list.now)) around.now found.old result found.new }
     {
         let mut all = Some(Items::new(self.alloc));
@@ -114,7 +116,7 @@ impl<F: Fn(Global, &mut Found, &Around<'_>, u64, Tree<'_>) -> Result<Typed, Memo
         tree: &Parameter,
         number: u32,
     ) -> Result<Option<TypedParameter>, Memory>
-        requires { Nests self.now.more (F.pre self.now.inside) (F.post self.now.inside) }
+        requires { Nests WalksTree self.now.more (F.pre self.now.inside) (F.post self.now.inside) }
         ensures { Walks (typing.parameter_typing tree.now number) around.now found.old result found.new }
     {
         let first = first_specifier(tree.specifiers.as_slice());
@@ -144,7 +146,7 @@ impl<F: Fn(Global, &mut Found, &Around<'_>, u64, Tree<'_>) -> Result<Typed, Memo
         first: Pos,
         basis: Option<Basis>,
     ) -> Result<Option<CType>, Memory>
-        requires { Nests self.now.more (F.pre self.now.inside) (F.post self.now.inside) }
+        requires { Nests WalksTree self.now.more (F.pre self.now.inside) (F.post self.now.inside) }
         ensures { Walks (spec.parameter_type (typing.declarator_typing tree.now) first basis) around.now found.old result found.new }
     {
         let basis = basis_type(basis);

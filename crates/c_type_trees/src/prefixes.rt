@@ -1,13 +1,15 @@
 //! Prefixes and the operands behind them (C11 6.5.3, 6.5.4).
+//! Walks over prefixes from left to right; the rows stand in c_type_expressions.
 
 ghost use Rattle.std.specs.Prelude.{◌≡◌, map};
 ghost use Rattle.std.specs.Option.{option_map};
 ghost use Rattle.c_typing.specs.Trees as typing;
+ghost use Rattle.c_type_walk.specs.Nests.{Nests};
 ghost use Rattle.c_type_walk.specs.Walks.{Walks};
 ghost use Rattle.c_type_expressions.specs.Prefixes.{prefixing};
 ghost use Rattle.c_type_expressions.specs.Told.{WalksAs};
 ghost use Rattle.c_type_trees.specs.Calls as calls;
-ghost use Rattle.c_type_trees.specs.Nests.{Nests};
+ghost use Rattle.c_type_trees.specs.Nested.{WalksTree};
 ghost use Rattle.c_type_trees.specs.Sequences as sequences;
 
 use crate::nested::{Tree, Typed};
@@ -30,7 +32,7 @@ impl<F: Fn(Global, &mut Found, &Around<'_>, u64, Tree<'_>) -> Result<Typed, Memo
         run: &[Prefix],
         operand: &Expr,
     ) -> Result<Option<Operand>, Memory>
-        requires { Nests self.now.more (F.pre self.now.inside) (F.post self.now.inside) }
+        requires { Nests WalksTree self.now.more (F.pre self.now.inside) (F.post self.now.inside) }
         ensures { Walks (sequences.prefixed_row (map typing.prefix_typing run.now) (typing.expr_typing operand.now)) around.now found.old result found.new }
     {
         let all = self.prefixes(found, around, run)?;
@@ -45,7 +47,7 @@ impl<F: Fn(Global, &mut Found, &Around<'_>, u64, Tree<'_>) -> Result<Typed, Memo
         around: &Around<'_>,
         run: &[Prefix],
     ) -> Result<Option<Items<Option<Prefixing>>>, Memory>
-        requires { Nests self.now.more (F.pre self.now.inside) (F.post self.now.inside) }
+        requires { Nests WalksTree self.now.more (F.pre self.now.inside) (F.post self.now.inside) }
         ensures { WalksAs (λ all. map (option_map prefixing) all) (sequences.prefixes_walk (map typing.prefix_typing run.now)) around.now found.old result found.new }
     {
         let mut all = Items::new(self.alloc);
@@ -63,7 +65,7 @@ impl<F: Fn(Global, &mut Found, &Around<'_>, u64, Tree<'_>) -> Result<Typed, Memo
         around: &Around<'_>,
         tree: &Prefix,
     ) -> Result<Option<Prefixing>, Memory>
-        requires { Nests self.now.more (F.pre self.now.inside) (F.post self.now.inside) }
+        requires { Nests WalksTree self.now.more (F.pre self.now.inside) (F.post self.now.inside) }
         ensures { WalksAs prefixing (typing.prefix_typing tree.now).walk around.now found.old result found.new }
     {
         match tree {
@@ -84,7 +86,7 @@ impl<F: Fn(Global, &mut Found, &Around<'_>, u64, Tree<'_>) -> Result<Typed, Memo
         place: Pos,
         tree: &TypeName,
     ) -> Result<Option<Operand>, Memory>
-        requires { Nests self.now.more (F.pre self.now.inside) (F.post self.now.inside) }
+        requires { Nests WalksTree self.now.more (F.pre self.now.inside) (F.post self.now.inside) }
         ensures { Walks (calls.sizeof_row place (typing.type_name_typing tree.now)) around.now found.old result found.new }
     {
         let ctype = self.type_name(found, around, place, tree)?;

@@ -1,4 +1,5 @@
 //! Lists of operators, from what the walks of their operands gave.
+//! No walk: each hands a list to the rows of c_type_expressions, where it has to be from its right end.
 
 ghost use Rattle.std.specs.Prelude.{◌≡◌, IfOk, map};
 ghost use Rattle.std.specs.Option.{option_map};

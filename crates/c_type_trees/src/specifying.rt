@@ -1,12 +1,14 @@
 //! Specifiers (C11 6.7.1 to 6.7.3).
+//! Walks over specifiers and enumerators; the rows stand in c_type_declarators.
 
 ghost use Rattle.std.specs.Prelude.{◌≡◌, map};
 ghost use Rattle.c_typing.specs.Declarators as declarators;
 ghost use Rattle.c_typing.specs.Trees as typing;
+ghost use Rattle.c_type_walk.specs.Nests.{Nests};
 ghost use Rattle.c_type_walk.specs.Walks.{Walks};
 ghost use Rattle.c_type_declarators.specs.Specifiers.{parts_of};
 ghost use Rattle.c_type_expressions.specs.Told.{WalksAs};
-ghost use Rattle.c_type_trees.specs.Nests.{Nests};
+ghost use Rattle.c_type_trees.specs.Nested.{WalksTree};
 
 use crate::names::{first_specifier, first_token};
 use crate::nested::{Tree, Typed};
@@ -34,7 +36,7 @@ impl<F: Fn(Global, &mut Found, &Around<'_>, u64, Tree<'_>) -> Result<Typed, Memo
         alone: bool,
         list: &[Specifier],
     ) -> Result<Option<Basis>, Memory>
-        requires { Nests self.now.more (F.pre self.now.inside) (F.post self.now.inside) }
+        requires { Nests WalksTree self.now.more (F.pre self.now.inside) (F.post self.now.inside) }
         ensures { Walks (declarators.specifiers_row alone (map typing.specifier_typing list.now)) around.now found.old result found.new }
     {
         let mut parts = SpecifierParts::new(self.alloc);
@@ -56,7 +58,7 @@ impl<F: Fn(Global, &mut Found, &Around<'_>, u64, Tree<'_>) -> Result<Typed, Memo
         parts: SpecifierParts,
         tree: &Specifier,
     ) -> Result<Option<SpecifierParts>, Memory>
-        requires { Nests self.now.more (F.pre self.now.inside) (F.post self.now.inside) }
+        requires { Nests WalksTree self.now.more (F.pre self.now.inside) (F.post self.now.inside) }
         ensures { WalksAs parts_of (declarators.with_specifier alone (parts_of parts) (typing.specifier_typing tree.now).specifying) around.now found.old result found.new }
     {
         match tree {
@@ -103,7 +105,7 @@ impl<F: Fn(Global, &mut Found, &Around<'_>, u64, Tree<'_>) -> Result<Typed, Memo
         tag: &Option<Identifier>,
         list: &[Enumerator],
     ) -> Result<Option<CType>, Memory>
-        requires { Nests self.now.more (F.pre self.now.inside) (F.post self.now.inside) }
+        requires { Nests WalksTree self.now.more (F.pre self.now.inside) (F.post self.now.inside) }
         ensures { Walks (declarators.enum_row tag.now (map typing.enumerator_typing list.now)) around.now found.old result found.new }
     {
         let Some(number) = enum_begun(self.alloc, found, around, tag.as_ref())? else {
@@ -125,7 +127,7 @@ impl<F: Fn(Global, &mut Found, &Around<'_>, u64, Tree<'_>) -> Result<Typed, Memo
         tree: &Enumerator,
         next: Option<u32>,
     ) -> Result<Option<u32>, Memory>
-        requires { Nests self.now.more (F.pre self.now.inside) (F.post self.now.inside) }
+        requires { Nests WalksTree self.now.more (F.pre self.now.inside) (F.post self.now.inside) }
         ensures { Walks ((typing.enumerator_typing tree.now).value next) around.now found.old result found.new }
     {
         match tree {

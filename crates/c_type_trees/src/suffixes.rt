@@ -1,12 +1,14 @@
 //! Suffixes and the operands before them (C11 6.5.2).
+//! Walks over suffixes and arguments; the rows stand in c_type_expressions.
 
 ghost use Rattle.std.specs.Prelude.{◌≡◌, map};
 ghost use Rattle.c_typing.specs.OfTrees as spec;
 ghost use Rattle.c_typing.specs.Trees as typing;
+ghost use Rattle.c_type_walk.specs.Nests.{Nests};
 ghost use Rattle.c_type_walk.specs.Walks.{Walks};
 ghost use Rattle.c_type_expressions.specs.Told.{WalksAs};
 ghost use Rattle.c_type_trees.specs.Calls as calls;
-ghost use Rattle.c_type_trees.specs.Nests.{Nests};
+ghost use Rattle.c_type_trees.specs.Nested.{WalksTree};
 
 use crate::names::{call_place, called, first_token};
 use crate::nested::{Tree, Typed};
@@ -30,7 +32,7 @@ impl<F: Fn(Global, &mut Found, &Around<'_>, u64, Tree<'_>) -> Result<Typed, Memo
         operand: &Expr,
         all: &[Suffix],
     ) -> Result<Option<Operand>, Memory>
-        requires { Nests self.now.more (F.pre self.now.inside) (F.post self.now.inside) }
+        requires { Nests WalksTree self.now.more (F.pre self.now.inside) (F.post self.now.inside) }
         ensures { Walks (spec.postfix_row (typing.expr_typing operand.now) (typing.expr_typing operand.now).callee (map typing.suffix_typing all.now)) around.now found.old result found.new }
     {
         match called(operand, all) {
@@ -50,7 +52,7 @@ impl<F: Fn(Global, &mut Found, &Around<'_>, u64, Tree<'_>) -> Result<Typed, Memo
         function: &Identifier,
         all: &[Suffix],
     ) -> Result<Option<Operand>, Memory>
-        requires { Nests self.now.more (F.pre self.now.inside) (F.post self.now.inside) }
+        requires { Nests WalksTree self.now.more (F.pre self.now.inside) (F.post self.now.inside) }
         ensures { Walks (calls.call_first function.now (map typing.suffix_typing all.now)) around.now found.old result found.new }
     {
         match all.split_first() {
@@ -71,7 +73,7 @@ impl<F: Fn(Global, &mut Found, &Around<'_>, u64, Tree<'_>) -> Result<Typed, Memo
         around: &Around<'_>,
         tree: &Suffix,
     ) -> Result<Option<Vec<Argument>>, Memory>
-        requires { Nests self.now.more (F.pre self.now.inside) (F.post self.now.inside) }
+        requires { Nests WalksTree self.now.more (F.pre self.now.inside) (F.post self.now.inside) }
         ensures { WalksAs (λ v. v.items) (calls.arguments_of (typing.suffix_typing tree.now)) around.now found.old result found.new }
     {
         match tree {
@@ -95,7 +97,7 @@ impl<F: Fn(Global, &mut Found, &Around<'_>, u64, Tree<'_>) -> Result<Typed, Memo
         first: &Expr,
         rest: &[Next],
     ) -> Result<Option<Vec<Argument>>, Memory>
-        requires { Nests self.now.more (F.pre self.now.inside) (F.post self.now.inside) }
+        requires { Nests WalksTree self.now.more (F.pre self.now.inside) (F.post self.now.inside) }
         ensures { WalksAs (λ v. v.items) (calls.all_arguments first.now rest.now) around.now found.old result found.new }
     {
         let value = self.expr(found, around, first)?;
@@ -112,7 +114,7 @@ impl<F: Fn(Global, &mut Found, &Around<'_>, u64, Tree<'_>) -> Result<Typed, Memo
         rest: &[Next],
         before: Vec<Argument>,
     ) -> Result<Option<Vec<Argument>>, Memory>
-        requires { Nests self.now.more (F.pre self.now.inside) (F.post self.now.inside) }
+        requires { Nests WalksTree self.now.more (F.pre self.now.inside) (F.post self.now.inside) }
         ensures { WalksAs (λ v. v.items) (calls.more_arguments before.items rest.now) around.now found.old result found.new }
     {
         let mut all = before;
@@ -131,7 +133,7 @@ impl<F: Fn(Global, &mut Found, &Around<'_>, u64, Tree<'_>) -> Result<Typed, Memo
         all: &[Suffix],
         operand: Option<Operand>,
     ) -> Result<Option<Operand>, Memory>
-        requires { Nests self.now.more (F.pre self.now.inside) (F.post self.now.inside) }
+        requires { Nests WalksTree self.now.more (F.pre self.now.inside) (F.post self.now.inside) }
         ensures { Walks (spec.suffixes_row (map typing.suffix_typing all.now) operand) around.now found.old result found.new }
     {
         let mut value = operand;
@@ -149,7 +151,7 @@ impl<F: Fn(Global, &mut Found, &Around<'_>, u64, Tree<'_>) -> Result<Typed, Memo
         tree: &Suffix,
         operand: Option<Operand>,
     ) -> Result<Option<Operand>, Memory>
-        requires { Nests self.now.more (F.pre self.now.inside) (F.post self.now.inside) }
+        requires { Nests WalksTree self.now.more (F.pre self.now.inside) (F.post self.now.inside) }
         ensures { Walks (spec.suffix_row (typing.suffix_typing tree.now) operand) around.now found.old result found.new }
     {
         let alloc = self.alloc;

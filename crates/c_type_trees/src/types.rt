@@ -1,4 +1,5 @@
 //! Specifiers, declarators and members, from what the walks of their parts gave: nothing is asked of what a fault stands in.
+//! No walk: each hands on to a row of c_type_declarators.
 
 ghost use Rattle.std.specs.Prelude.{◌≡◌, ◌&&◌, ◌++◌, ◌∷◌, [], true, not, Some, IfOk, is_some};
 ghost use Rattle.std.specs.Option.{option_copied, option_map};

@@ -1,10 +1,12 @@
 //! The walker, and what it walks over inside other trees.
+//! Walks by the function value that the walker holds, so that none of them leads back to itself.
 
 ghost use Rattle.std.specs.Prelude.{◌≡◌, map};
 ghost use Rattle.c_typing.specs.Declarators as declarators;
 ghost use Rattle.c_typing.specs.Trees as typing;
+ghost use Rattle.c_type_walk.specs.Nests.{Nests};
 ghost use Rattle.c_type_walk.specs.Walks.{Walks};
-ghost use Rattle.c_type_trees.specs.Nests.{Nests};
+ghost use Rattle.c_type_trees.specs.Nested.{WalksTree};
 
 use crate::names::name;
 use crate::nested::{Tree, Typed};
@@ -33,7 +35,7 @@ impl<F: Fn(Global, &mut Found, &Around<'_>, u64, Tree<'_>) -> Result<Typed, Memo
         around: &Around<'_>,
         tree: &Expr,
     ) -> Result<Option<Operand>, Memory>
-        requires { Nests self.now.more (F.pre self.now.inside) (F.post self.now.inside) }
+        requires { Nests WalksTree self.now.more (F.pre self.now.inside) (F.post self.now.inside) }
         ensures { Walks (typing.expr_typing tree.now).typed around.now found.old result found.new }
     {
         match (self.inside)(self.alloc, found, around, self.more, Tree::Expression(tree))? {
@@ -50,7 +52,7 @@ impl<F: Fn(Global, &mut Found, &Around<'_>, u64, Tree<'_>) -> Result<Typed, Memo
         alone: bool,
         list: &[Specifier],
     ) -> Result<Option<Basis>, Memory>
-        requires { Nests self.now.more (F.pre self.now.inside) (F.post self.now.inside) }
+        requires { Nests WalksTree self.now.more (F.pre self.now.inside) (F.post self.now.inside) }
         ensures { Walks (declarators.specifiers_row alone (map typing.specifier_typing list.now)) around.now found.old result found.new }
     {
         match (self.inside)(
@@ -73,7 +75,7 @@ impl<F: Fn(Global, &mut Found, &Around<'_>, u64, Tree<'_>) -> Result<Typed, Memo
         tree: &Declarator,
         defining: bool,
     ) -> Result<Option<Items<Part>>, Memory>
-        requires { Nests self.now.more (F.pre self.now.inside) (F.post self.now.inside) }
+        requires { Nests WalksTree self.now.more (F.pre self.now.inside) (F.post self.now.inside) }
         ensures { Walks ((typing.declarator_typing tree.now).parts defining) around.now found.old result found.new }
     {
         match (self.inside)(
@@ -98,7 +100,7 @@ impl<F: Fn(Global, &mut Found, &Around<'_>, u64, Tree<'_>) -> Result<Typed, Memo
         place: Pos,
         basis: Option<CType>,
     ) -> Result<Option<CType>, Memory>
-        requires { Nests self.now.more (F.pre self.now.inside) (F.post self.now.inside) }
+        requires { Nests WalksTree self.now.more (F.pre self.now.inside) (F.post self.now.inside) }
         ensures { Walks (declarators.declared_type (typing.declarator_typing tree.now) defining place basis) around.now found.old result found.new }
     {
         let all = self.parts(found, around, tree, defining)?;
@@ -114,7 +116,7 @@ impl<F: Fn(Global, &mut Found, &Around<'_>, u64, Tree<'_>) -> Result<Typed, Memo
         place: Pos,
         tree: &TypeName,
     ) -> Result<Option<CType>, Memory>
-        requires { Nests self.now.more (F.pre self.now.inside) (F.post self.now.inside) }
+        requires { Nests WalksTree self.now.more (F.pre self.now.inside) (F.post self.now.inside) }
         ensures { Walks ((typing.type_name_typing tree.now).typed place) around.now found.old result found.new }
     {
         let basis = self.specifiers(found, around, false, tree.specifiers.as_slice())?;

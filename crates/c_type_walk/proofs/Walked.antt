@@ -1,4 +1,5 @@
 -- How what a function finds composes as the walk does that it computes.
+-- The answers of the crates above cite these lemmas: `then`, scopes, and what a call answers.
 use Rattle.std.proofs.Common.{◌≡◌, ◌∙◌, refl, ap, sym, subst, ℕ, List, ◌++◌, Option, Some, None, Result, Ok, Err, IfOk, take, length, append_assoc}
 use Rattle.std.proofs.lemmas.List.{append-nil}
 use Rattle.word_ops.specs.declared.memory.Memory.{Memory}

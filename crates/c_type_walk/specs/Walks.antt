@@ -1,4 +1,5 @@
 -- What a function that types a construct ensures.
+-- The clauses of all crates that walk or have rows cite `Walks` of a walk of c_typing.
 use Rattle.std.specs.Prelude.{◌≡◌, ◌++◌, Option, Result, Ok, Err}
 use Rattle.word_ops.specs.declared.memory.Memory.{Memory}
 use Rattle.c_typing.specs.Scopes.{Said, Walk}

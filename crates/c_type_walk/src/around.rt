@@ -1,4 +1,5 @@
 //! What is fixed around a construct.
+//! No walk and no row: what both are told.
 
 ghost use Rattle.std.specs.Prelude.{◌≡◌, length};
 ghost use Rattle.c_type_walk.specs.Walks.{fixed};

@@ -1,4 +1,5 @@
 //! What typing has found in a unit so far.
+//! No walk and no row: what both write down and look up.
 
 ghost use Rattle.std.specs.Prelude.{◌≡◌, ◌++◌, ◌∷◌, [], OnOk, take};
 ghost use Rattle.std.specs.Option.{option_copied};

@@ -1,4 +1,5 @@
 //! Names and their places in lists.
+//! No walk and no row.
 
 ghost use Rattle.std.specs.Prelude.{◌≡◌, IfOk};
 ghost use Rattle.c_typing.specs.Scopes as spec;

@@ -1,4 +1,5 @@
 -- The parameters of a function, and its body.
+-- The answers of `body_row` and `parameters_of` cite these lemmas.
 use Rattle.std.proofs.Common.{◌≡◌, ◌∙◌, refl, ap, sym, subst, false, ℕ, List, [], ◌∷◌, ◌++◌, Option, Some, None, map}
 use Rattle.c_tree.specs.declared.statement.Block.{Block, out-Block}
 use Rattle.c_tree.specs.declared.statement.BlockItem.{BlockItem}

@@ -1,4 +1,5 @@
 -- A definition by the parts that the code has is the definition.
+-- `InOrder` cites it.
 use Rattle.std.proofs.Common.{◌≡◌, ◌∙◌, refl, ap, sym, true, false, ℕ, ◌+◌, List, [], ◌∷◌, ◌++◌, Option, Some, None, length}
 use Rattle.c_tree.specs.declared.expression.Identifier.{Identifier}
 use Rattle.c_tree.specs.declared.typed.types.CType.{CType}

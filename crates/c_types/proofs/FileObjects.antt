@@ -1,4 +1,5 @@
 -- The file-level objects of a unit, item by item.
+-- The answer of `file_objects` cites these lemmas.
 use Rattle.std.proofs.Common.{◌≡◌, ◌∙◌, ap, sym, ℕ, ◌+◌, ◌<◌, List, [], ◌∷◌, length, get_or, drop, map}
 use Rattle.c_tree.specs.declared.declaration.Declaration.{Declaration}
 use Rattle.c_tree.specs.declared.unit.Definition.{Definition}

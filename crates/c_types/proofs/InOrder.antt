@@ -1,4 +1,5 @@
 -- A definition, walked part after part.
+-- The answers of `definition_row` and `defined_as` cite these lemmas.
 use Rattle.std.proofs.Common.{◌≡◌, ◌∙◌, refl, ap, sym, subst, ℕ, ◌+◌, true, false, List, ◌++◌, Option, Some, None, length}
 use Rattle.std.specs.Option.{option_map}
 use Rattle.c_tree.specs.declared.expression.Identifier.{Identifier}

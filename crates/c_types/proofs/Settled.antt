@@ -1,4 +1,5 @@
 -- What a unit comes to once all of it has been walked.
+-- The answer of `check` cites these lemmas.
 use Rattle.std.proofs.Common.{◌≡◌, ◌∙◌, refl, ap, sym, subst, ℕ, Bool, false, true, not, List, [], ◌++◌, Option, Some, None, is_none, is_some, unwrap_or, map}
 use Rattle.std.specs.Option.{option_map}
 use Rattle.c_tree.specs.declared.refusal.FaultKind.TheVariants as kind

@@ -1,4 +1,5 @@
 -- What the call tells of a unit.
+-- The clause of `check` cites it: the one statement of all of typing.
 use Rattle.std.specs.Prelude.{◌≡◌, Some, None, Result, Ok, Err}
 use Rattle.c_tree.specs.declared.unit.Unit as tree
 use Rattle.c_tree.specs.declared.typed.unit.Typed.{Typed}

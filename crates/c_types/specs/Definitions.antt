@@ -1,4 +1,5 @@
 -- The parts of a definition, and of what a unit comes to.
+-- The clauses of `definitions` and `unit` cite them.
 use Rattle.std.specs.Prelude.{ℕ, ◌+◌, true, false, List, [], ◌∷◌, ◌++◌, Option, Some, None, map, take, length}
 use Rattle.c_tree.specs.declared.expression.Identifier.{Identifier}
 use Rattle.c_tree.specs.declared.refusal.FaultKind.TheVariants as kind

@@ -1,4 +1,5 @@
 //! The call.
+//! Walks over a unit, by `unit`, and tells the first of its faults or gives its typed tree.
 
 ghost use Rattle.c_tree.specs.Levelled.{IsUnit};
 ghost use Rattle.c_types.specs.Check.{Checked};

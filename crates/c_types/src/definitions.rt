@@ -1,4 +1,5 @@
 //! Function definitions (C11 6.9.1).
+//! Walks over a definition: its header by c_type_trees, its body by c_type_statements.
 
 ghost use Rattle.std.specs.Prelude.{◌≡◌, ◌++◌, ◌∷◌, [], false, true, map, length, IfOk, OnOk};
 ghost use Rattle.std.specs.Option.{option_map};

@@ -1,4 +1,5 @@
 //! Which of some faults is told: the one at the earliest place, and of those at one place the one whose kind comes first.
+//! No walk: faults are compared by place and then by kind.
 
 ghost use Rattle.std.specs.Prelude.{◌≡◌, None};
 ghost use Rattle.c_typing.specs.Faults as spec;

@@ -1,4 +1,5 @@
 //! Units: what stands at file level, and the typed tree of all (C11 6.9).
+//! Walks over declarations and definitions in turn, and puts their parts together.
 
 ghost use Rattle.std.specs.Prelude.{◌≡◌, [], IfOk, map};
 ghost use Rattle.c_typing.specs.Declarations as declarations;

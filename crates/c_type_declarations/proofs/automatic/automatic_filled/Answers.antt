@@ -1,3 +1,5 @@
+-- `automatic_filled` of src/automatic.rt: what the check leaves open of its proof.
+-- What an initialiser fills: an array without a number of elements is declared again with as many as it tells.
 use Rattle.c_type_declarations.proofs.Started.{automatic_says}
 use Rattle.c_type_declarations.proofs.automatic.automatic_filled.Goals as goal
 

@@ -1,3 +1,5 @@
+-- `add_objects` of src/counting.rt: what holds in its loop.
+-- Puts the names of objects behind those that are there already: of those with an initialiser alone, where that is told.
 use Rattle.std.proofs.Common.{◌≡◌, drop, map}
 use Rattle.c_typing.specs.Declarations as spec
 use Rattle.c_typing.specs.Units.{with_new}

@@ -1,3 +1,5 @@
+-- `automatic_count` of src/counting.rt: what the check leaves open of its proof.
+-- How many automatic objects a declaration in a function declares; `names` are then those behind it.
 use Rattle.c_type_declarations.proofs.counting.automatic_count.Goals as goal
 
 pub returns-then-stores-clause-names : goal.returns-then-stores-clause-names

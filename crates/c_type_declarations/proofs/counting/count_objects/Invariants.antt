@@ -1,3 +1,5 @@
+-- `count_objects` of src/counting.rt: what holds in its loop.
+-- How many declarators of a list declare objects.
 use Rattle.std.proofs.Common.{◌≡◌, ◌+◌, ◌≤◌, drop, length, map}
 use Rattle.c_typing.specs.Declarations as spec
 use Rattle.c_type_declarations.proofs.counting.count_objects.Given as goal

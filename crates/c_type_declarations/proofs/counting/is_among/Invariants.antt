@@ -1,3 +1,5 @@
+-- `is_among` of src/counting.rt: what holds in its loop.
+-- Whether a name is one of a list.
 use Rattle.std.proofs.Common.{◌≡◌, drop}
 use Rattle.std.specs.List.{list_any}
 use Rattle.std.specs.Str.{bytes_eq}

@@ -1,3 +1,5 @@
+-- `names_typedefs` of src/counting.rt: what holds in its loop.
+-- Declares the typedef names of a list.
 use Rattle.std.proofs.Common.{◌≡◌, drop, map}
 use Rattle.c_typing.specs.Declarations as spec
 use Rattle.c_type_declarations.specs.Counting.{named}

@@ -1,3 +1,5 @@
+-- `stores` of src/counting.rt: what holds in its loop.
+-- Whether such a storage word stands among specifiers.
 use Rattle.std.proofs.Common.{◌≡◌, drop, map}
 use Rattle.std.specs.List.{list_any}
 use Rattle.c_typing.specs.Declarations as spec

@@ -1,3 +1,5 @@
+-- `stores_one` of src/counting.rt: what the check leaves open of its proof.
+-- Whether a specifier is a storage word of those that are asked for.
 use Rattle.std.proofs.Common.{refl}
 use Rattle.c_typing.specs.Trees.{specifier_typing-Const, specifier_typing-Enum, specifier_typing-EnumTag, specifier_typing-Storage, specifier_typing-Struct, specifier_typing-StructTag, specifier_typing-TypedefName, specifier_typing-Word}
 use Rattle.c_type_declarations.proofs.counting.stores_one.Goals as goal

@@ -1,3 +1,5 @@
+-- `uses_function` of src/counting.rt: what holds in its loop.
+-- Whether a typedef name of a function type stands among specifiers.
 use Rattle.std.proofs.Common.{◌≡◌, drop, map}
 use Rattle.std.specs.List.{list_any}
 use Rattle.c_typing.specs.Declarations as spec

@@ -1,3 +1,5 @@
+-- `declaration_row` of src/declarations.rt: what the check leaves open of its proof.
+-- A declaration, by the statements that it comes to: initial values of automatic objects.
 use Rattle.std.proofs.Common.{map}
 use Rattle.std.specs.Option.{option_copied}
 use Rattle.c_typing.specs.Declarators.{specifiers_row}

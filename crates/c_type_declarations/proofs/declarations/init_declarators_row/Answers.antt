@@ -1,3 +1,5 @@
+-- `init_declarators_row` of src/declarations.rt: what the check leaves open of its proof.
+-- The declarators of a declaration, in order: what one declares is visible in the next (C11 6.2.1p7).
 use Rattle.std.proofs.Common.{◌≡◌, ◌+◌, ◌<◌, refl, sym, subst, Option, length, drop, map, arith}
 use Rattle.std.specs.Option.{option_copied}
 use Rattle.c_typing.specs.Declarations as spec

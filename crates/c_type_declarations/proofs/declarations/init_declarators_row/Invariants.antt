@@ -1,3 +1,5 @@
+-- `init_declarators_row` of src/declarations.rt: what holds in its loop.
+-- The declarators of a declaration, in order: what one declares is visible in the next (C11 6.2.1p7).
 use Rattle.std.proofs.Common.{drop, map}
 use Rattle.std.specs.Option.{option_copied}
 use Rattle.c_typing.specs.Declarations as spec

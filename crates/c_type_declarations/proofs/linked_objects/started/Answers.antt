@@ -1,3 +1,5 @@
+-- `started` of src/automatic.rt: what the check leaves open of its proof.
+-- An object with an initialiser.
 use Rattle.c_typing.specs.Initialisers.{initialiser_typing}
 use Rattle.c_typing.specs.Declarations as spec
 use Rattle.c_type_declarations.proofs.Started.{started_as}

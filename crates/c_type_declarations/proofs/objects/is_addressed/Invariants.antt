@@ -1,3 +1,5 @@
+-- `is_addressed` of src/objects.rt: what holds in its loop.
+-- Whether `&` is applied to the object of this number.
 use Rattle.std.proofs.Common.{◌≡◌, ◌==◌, drop}
 use Rattle.std.specs.List.{list_any}
 use Rattle.c_typing.specs.OfStatements as statements

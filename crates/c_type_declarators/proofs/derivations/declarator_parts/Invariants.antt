@@ -1,3 +1,5 @@
+-- `declarator_parts` of src/derivations.rt: what holds in its loop, and why that ends.
+-- The parts of a declarator in the order in which they apply to a type: its pointers, what stands behind its middle from the last to the first, and what the middle is made of.
 use Rattle.std.proofs.Common.{◌≡◌, ◌++◌, length, reverse}
 use Rattle.c_type_declarators.proofs.derivations.declarator_parts.Given as goal
 

@@ -1,3 +1,5 @@
+-- `derive` of src/derivations.rt: what holds in its loop.
+-- What the parts of a declarator make of a type, each of what the one before it makes; faults are told at the place that stands for the name (C11 6.7.6p4).
 use Rattle.std.proofs.Common.{drop}
 use Rattle.c_typing.specs.Declarators as spec
 use Rattle.c_type_walk.specs.Walks.{fixed}

@@ -1,3 +1,5 @@
+-- `as_declared` of src/structures.rt: what holds in its loop.
+-- The members as they are declared, or `None` where a fault stands in one.
 use Rattle.std.proofs.Common.{◌≡◌, ◌++◌, drop}
 use Rattle.std.specs.Option.{option_map}
 use Rattle.c_typing.specs.Declarators.{as_declared}

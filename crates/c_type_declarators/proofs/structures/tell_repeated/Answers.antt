@@ -1,3 +1,5 @@
+-- `tell_repeated` of src/structures.rt: what the check leaves open of its proof.
+-- Tells of each member whose name stood before (C11 6.2.3p1), and whether there is one.
 use Rattle.std.proofs.Common.{◌≡◌, ◌∙◌, sym, arith, take}
 use Rattle.std.proofs.lemmas.Grind.{common_steps}
 use Rattle.std.specs.List.{list_any}

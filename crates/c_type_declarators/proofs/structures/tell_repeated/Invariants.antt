@@ -1,3 +1,5 @@
+-- `tell_repeated` of src/structures.rt: what holds in its loop.
+-- Tells of each member whose name stood before (C11 6.2.3p1), and whether there is one.
 use Rattle.std.proofs.Common.{◌≡◌, ◌++◌, ◌||◌, [], ltb, length, take, drop}
 use Rattle.c_typing.specs.Declarators.{repeated}
 use Rattle.c_type_declarators.specs.Members.{names_of}

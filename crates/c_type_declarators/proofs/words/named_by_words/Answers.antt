@@ -1,3 +1,5 @@
+-- `named_by_words` of src/words.rt: what the check leaves open of its proof.
+-- The type that words name, in any order, or `None` exactly where they name none.
 use Rattle.c_type_declarators.proofs.NamedByWords.{named-by-read}
 use Rattle.c_type_declarators.proofs.words.named_by_words.Goals as goal
 

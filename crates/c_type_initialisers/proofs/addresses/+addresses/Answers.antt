@@ -1,3 +1,5 @@
+-- `addresses` of src/addresses.rt: what the check leaves open of its proof.
+-- The place in a static object that an expression is the address of, by constant indices, members, offsets and conversions of pointers; or `None` exactly where it is none (C11 6.6p9).
 use Rattle.std.proofs.Common.{refl}
 use Rattle.c_type_initialisers.proofs.Rows.{address-Applied}
 use Rattle.c_type_initialisers.proofs.addresses.+addresses.Goals as goal

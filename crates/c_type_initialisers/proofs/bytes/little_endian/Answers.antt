@@ -1,3 +1,5 @@
+-- `little_endian` of src/bytes.rt: what the check leaves open of its proof.
+-- The lowest bytes of a number, the lowest first.
 use Rattle.std.proofs.Common.{◌≡◌, ap, ℕ, suc, ◌+◌, ◌-◌, ◌/◌, ◌%◌, ◌<◌, ◌∷◌, append_assoc, arith}
 use Rattle.c_typing.specs.Starts.{little_endian}
 use Rattle.c_type_initialisers.proofs.bytes.little_endian.Goals as goal

@@ -1,3 +1,5 @@
+-- `descend` of src/descent.rt: what the check leaves open of its proof.
+-- The part of a part that an expression initialises: the first one of it that the expression takes as a whole, or that has no parts itself.
 use Rattle.std.proofs.Common.{◌≡◌, ◌∙◌, sym, ap, suc, ◌+◌, ◌-◌, List, Some, None, arith}
 use Rattle.c_typing.specs.declared.initialiser.Frame.{Frame}
 use Rattle.c_typing.specs.declared.initialiser.Piece.{Piece}

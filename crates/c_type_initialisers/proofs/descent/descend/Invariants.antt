@@ -1,3 +1,5 @@
+-- `descend` of src/descent.rt: what holds in its loop.
+-- The part of a part that an expression initialises: the first one of it that the expression takes as a whole, or that has no parts itself.
 use Rattle.std.proofs.Common.{◌≡◌, ◌-◌}
 use Rattle.c_type_initialisers.specs.Stacks.{stack}
 use Rattle.c_typing.specs.OfInitialisers as spec

@@ -1,3 +1,5 @@
+-- `expression_item` of src/expressions.rt: what the check leaves open of its proof.
+-- An expression in a list, and the part at which it stands: it initialises that part, or the first one of it that it takes (C11 6.7.9p20).
 use Rattle.std.proofs.Common.{sym, ◌∙◌}
 use Rattle.c_typing.specs.Trees.{expr_typing}
 use Rattle.c_type_initialisers.specs.Stacks.{stack, placed}

@@ -1,3 +1,5 @@
+-- `next_piece` of src/frames.rt: what holds in its loop, and why that ends.
+-- The next part of the innermost aggregate that has one left, which is passed then; those that have none left are closed.
 use Rattle.std.proofs.Common.{◌≡◌, length}
 use Rattle.c_type_initialisers.specs.Stacks.{stack}
 use Rattle.c_typing.specs.OfInitialisers as spec

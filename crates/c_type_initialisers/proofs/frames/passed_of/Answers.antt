@@ -1,3 +1,5 @@
+-- `passed_of` of src/frames.rt: what the check leaves open of its proof.
+-- How many parts of the outermost aggregate were passed.
 use Rattle.std.proofs.Common.{sym}
 use Rattle.c_type_initialisers.proofs.Turned.{outermost, none_open}
 use Rattle.c_type_initialisers.proofs.frames.passed_of.Goals as goal

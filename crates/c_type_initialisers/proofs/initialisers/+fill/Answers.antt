@@ -1,3 +1,5 @@
+-- `fill` of src/initialisers.rt: what the check leaves open of its proof.
+-- What an initialiser fills of an object of a type, which begins so many bytes from the start of the whole (C11 6.7.9).
 use Rattle.std.proofs.Common.{◌∙◌, sym, ◌<◌, length, arith}
 use Rattle.c_typing.specs.Initialisers.{initialiser_typing-Expression, initialiser_typing-List}
 use Rattle.c_type_initialisers.specs.Stacks.{stack}

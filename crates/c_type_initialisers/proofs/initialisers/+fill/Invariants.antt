@@ -1,3 +1,5 @@
+-- `fill` of src/initialisers.rt: what holds in its loop.
+-- What an initialiser fills of an object of a type, which begins so many bytes from the start of the whole (C11 6.7.9).
 use Rattle.std.proofs.Common.{drop, map}
 use Rattle.c_type_walk.specs.Walks.{fixed}
 use Rattle.c_typing.specs.Initialisers.{initialiser_item_typing}

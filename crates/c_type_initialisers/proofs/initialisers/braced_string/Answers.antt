@@ -1,3 +1,5 @@
+-- `braced_string` of src/initialisers.rt: what the check leaves open of its proof.
+-- A string for an array of characters may stand in braces (C11 6.7.9p14).
 use Rattle.std.proofs.Common.{◌≡◌, length, arith}
 use Rattle.c_type_initialisers.proofs.Braced.{braced_list, braced_expression}
 use Rattle.c_type_initialisers.proofs.initialisers.braced_string.Goals as goal

@@ -1,3 +1,5 @@
+-- `first_of_initialiser` of src/initialisers.rt: what the check leaves open of its proof.
+-- The first token of an initialiser.
 use Rattle.std.proofs.Common.{refl}
 use Rattle.c_typing.specs.Initialisers.{initialiser_typing-Expression, initialiser_typing-List}
 use Rattle.c_type_initialisers.proofs.initialisers.first_of_initialiser.Goals as goal

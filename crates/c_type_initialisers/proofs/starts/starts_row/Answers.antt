@@ -1,3 +1,5 @@
+-- `starts_row` of src/starts.rt: what the check leaves open of its proof.
+-- What stands in a static object as the program begins, where that is not zero (C11 6.7.9p4, p10).
 use Rattle.c_type_initialisers.proofs.Loops.{starts_turn}
 use Rattle.c_type_initialisers.proofs.starts.starts_row.Goals as goal
 

@@ -1,3 +1,5 @@
+-- `starts_row` of src/starts.rt: what holds in its loop, and why that ends.
+-- What stands in a static object as the program begins, where that is not zero (C11 6.7.9p4, p10).
 use Rattle.std.proofs.Common.{length, reverse}
 use Rattle.c_type_walk.specs.Walks.{fixed}
 use Rattle.c_typing.specs.Starts as spec

@@ -1,3 +1,5 @@
+-- `reversed` of src/turns.rt: what holds in its loop, and why that ends.
+-- The items of a list, the last one first.
 use Rattle.std.proofs.Common.{◌≡◌, ◌++◌, reverse, length}
 use Rattle.c_type_initialisers.proofs.turns.reversed.Given as goal
 

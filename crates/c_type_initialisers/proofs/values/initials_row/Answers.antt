@@ -1,3 +1,5 @@
+-- `initials_row` of src/values.rt: what the check leaves open of its proof.
+-- The pieces in order, all of them where nothing is wrong with any.
 use Rattle.c_type_initialisers.proofs.Loops.{initials_turn}
 use Rattle.c_type_initialisers.proofs.values.initials_row.Goals as goal
 

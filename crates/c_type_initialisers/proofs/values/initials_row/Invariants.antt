@@ -1,3 +1,5 @@
+-- `initials_row` of src/values.rt: what holds in its loop, and why that ends.
+-- The pieces in order, all of them where nothing is wrong with any.
 use Rattle.std.proofs.Common.{length, reverse}
 use Rattle.c_type_walk.specs.Walks.{fixed}
 use Rattle.c_typing.specs.Starts as spec

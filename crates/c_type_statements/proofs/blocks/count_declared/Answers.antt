@@ -1,3 +1,5 @@
+-- `count_declared` of src/blocks.rt: what the check leaves open of its proof.
+-- How many automatic objects the declaration in the head of a `for` declares.
 use Rattle.std.proofs.Common.{◌≡◌, subst, IfOk}
 use Rattle.c_typing.specs.Declarations.{FunctionNames, automatic_count, declared_of}
 use Rattle.c_type_statements.proofs.blocks.count_declared.Goals as goal

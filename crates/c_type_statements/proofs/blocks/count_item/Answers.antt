@@ -1,3 +1,5 @@
+-- `count_item` of src/blocks.rt: what the check leaves open of its proof.
+-- How many an item of a block declares; `names` are then those behind it.
 use Rattle.std.proofs.Common.{refl}
 use Rattle.c_typing.specs.Statements.{block_item_typing-Case, block_item_typing-Declaration, block_item_typing-Default, block_item_typing-Statement}
 use Rattle.c_type_statements.proofs.blocks.count_item.Goals as goal

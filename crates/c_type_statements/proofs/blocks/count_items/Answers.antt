@@ -1,3 +1,5 @@
+-- `count_items` of src/blocks.rt: what the check leaves open of its proof.
+-- How many automatic objects a block declares itself.
 use Rattle.std.proofs.Common.{◌≡◌, ◌∙◌, ◌+◌, ◌<◌, ap, length, map, zero-add, arith}
 use Rattle.c_typing.specs.Declarations.{FunctionNames}
 use Rattle.c_typing.specs.OfStatements as spec

@@ -1,3 +1,5 @@
+-- `count_items` of src/blocks.rt: what holds in its loop.
+-- How many automatic objects a block declares itself.
 use Rattle.std.proofs.Common.{◌≡◌, ◌+◌, drop, map}
 use Rattle.c_typing.specs.OfStatements as spec
 use Rattle.c_typing.specs.Statements.{block_item_typing}

@@ -1,3 +1,5 @@
+-- `expression_row` of src/values.rt: what the check leaves open of its proof.
+-- An expression statement; without an expression it is nothing (C11 6.8.3).
 use Rattle.c_type_walk.specs.Walks.{fixed}
 use Rattle.c_type_statements.proofs.Rows.{nothing_done}
 use Rattle.c_type_statements.proofs.values.expression_row.Goals as goal

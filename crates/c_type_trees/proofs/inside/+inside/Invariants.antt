@@ -1,3 +1,5 @@
+-- `inside` of src/inside.rt: why it ends.
+-- What typing makes of a tree inside another, where so many may stand inside one another with that one.
 use Rattle.c_type_trees.proofs.inside.+inside.Given as goal
 
 abbrev pub decreases-inside : goal.decreases-inside

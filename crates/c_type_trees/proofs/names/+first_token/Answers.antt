@@ -1,3 +1,5 @@
+-- `first_token` of src/names.rt: what the check leaves open of its proof.
+-- The first token of an expression.
 use Rattle.std.proofs.Common.{refl}
 use Rattle.c_typing.specs.Trees.{expr_typing-Assign, expr_typing-Binary, expr_typing-Char, expr_typing-Comma, expr_typing-Conditional, expr_typing-Name, expr_typing-Number, expr_typing-Paren, expr_typing-Postfix, expr_typing-Prefixed, expr_typing-SizeofType, expr_typing-Strings}
 use Rattle.c_type_trees.proofs.names.+first_token.Goals as goal

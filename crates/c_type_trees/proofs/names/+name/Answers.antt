@@ -1,3 +1,5 @@
+-- `name` of src/names.rt: what the check leaves open of its proof.
+-- The name that a declarator declares, where it has one (C11 6.7.6).
 use Rattle.std.proofs.Common.{refl}
 use Rattle.c_typing.specs.Trees.{declarator_typing-is, direct_typing-Grouped, direct_typing-Named, direct_typing-Nothing}
 use Rattle.c_type_trees.proofs.names.+name.Goals as goal

@@ -1,3 +1,5 @@
+-- `first_operand` of src/names.rt: what the check leaves open of its proof.
+-- The operand with which an expression begins that has operators behind it, or is in parentheses.
 use Rattle.std.proofs.Common.{refl}
 use Rattle.c_type_trees.proofs.Begins.{out_Name, out_Number, out_Char, out_Strings, out_Paren, out_Postfix, out_SizeofType, out_Prefixed, out_Binary, out_Conditional, out_Assign, out_Comma}
 use Rattle.c_type_trees.proofs.names.first_operand.Goals as goal

@@ -1,3 +1,5 @@
+-- `is_call` of src/names.rt: what the check leaves open of its proof.
+-- Whether a suffix is a call.
 use Rattle.std.proofs.Common.{refl}
 use Rattle.c_typing.specs.Trees.{suffix_typing-Arrow, suffix_typing-Call, suffix_typing-CallWith, suffix_typing-Decrement, suffix_typing-Increment, suffix_typing-Index, suffix_typing-Member}
 use Rattle.c_type_trees.proofs.names.is_call.Goals as goal

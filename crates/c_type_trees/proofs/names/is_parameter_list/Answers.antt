@@ -1,3 +1,5 @@
+-- `is_parameter_list` of src/names.rt: what the check leaves open of its proof.
+-- Whether a part of a declarator is a parameter list.
 use Rattle.std.proofs.Common.{refl}
 use Rattle.c_typing.specs.Trees.{declarator_suffix_typing-Array, declarator_suffix_typing-ArrayOf, declarator_suffix_typing-Empty, declarator_suffix_typing-Parameters, declarator_suffix_typing-Void}
 use Rattle.c_type_trees.proofs.names.is_parameter_list.Goals as goal

@@ -1,3 +1,5 @@
+-- `prefix_place` of src/names.rt: what the check leaves open of its proof.
+-- The place of the first token of a prefix.
 use Rattle.std.proofs.Common.{refl}
 use Rattle.c_typing.specs.Trees.{prefix_typing-Cast, prefix_typing-Operator, prefix_typing-Sizeof}
 use Rattle.c_type_trees.proofs.names.prefix_place.Goals as goal

@@ -1,3 +1,5 @@
+-- `specifier_place` of src/names.rt: what the check leaves open of its proof.
+-- The place of the first token of a specifier.
 use Rattle.std.proofs.Common.{refl}
 use Rattle.c_typing.specs.Trees.{specifier_typing-Const, specifier_typing-Enum, specifier_typing-EnumTag, specifier_typing-Storage, specifier_typing-Struct, specifier_typing-StructTag, specifier_typing-TypedefName, specifier_typing-Word}
 use Rattle.c_type_trees.proofs.names.specifier_place.Goals as goal

@@ -1,3 +1,5 @@
+-- `strings_of` of src/names.rt: what the check leaves open of its proof.
+-- The string literals that an expression is.
 use Rattle.std.proofs.Common.{refl}
 use Rattle.c_typing.specs.Trees.{expr_typing-Assign, expr_typing-Binary, expr_typing-Char, expr_typing-Comma, expr_typing-Conditional, expr_typing-Name, expr_typing-Number, expr_typing-Paren, expr_typing-Postfix, expr_typing-Prefixed, expr_typing-SizeofType, expr_typing-Strings}
 use Rattle.c_type_trees.proofs.names.strings_of.Goals as goal

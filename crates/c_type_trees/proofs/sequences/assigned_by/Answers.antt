@@ -1,3 +1,5 @@
+-- `assigned_by` of src/sequences.rt: what the check leaves open of its proof.
+-- A chain of assignments, made from its right end (C11 6.5.16p1).
 use Rattle.std.proofs.Common.{◌∙◌, ap}
 use Rattle.std.specs.Option.{option_map}
 use Rattle.c_type_expressions.specs.Assignments.{assigned_of}

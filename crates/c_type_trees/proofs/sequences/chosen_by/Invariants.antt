@@ -1,3 +1,5 @@
+-- `chosen_by` of src/sequences.rt: what holds in its loop, and why that ends.
+-- A chain of `? :`, made from its right end (C11 6.5.15p1).
 use Rattle.std.proofs.Common.{◌≡◌, length}
 use Rattle.std.specs.Option.{option_map}
 use Rattle.c_type_expressions.specs.Chains.{chain_of}

@@ -1,3 +1,5 @@
+-- `prefixed_by` of src/sequences.rt: what the check leaves open of its proof.
+-- Prefixes before an operand: the one that stands next to it comes first (C11 6.5.3).
 use Rattle.std.proofs.Common.{◌∙◌, ap, map}
 use Rattle.std.specs.Option.{option_map}
 use Rattle.c_typing.specs.OfTrees.{prefixes_row}

@@ -1,3 +1,5 @@
+-- `number_in` of src/names.rt: what holds in its loop.
+-- The place of the first name in a list that is this one, from 0.
 use Rattle.std.proofs.Common.{◌≡◌, drop}
 use Rattle.c_typing.specs.Scopes as spec
 use Rattle.c_type_walk.proofs.names.number_in.Given as goal

@@ -1,3 +1,5 @@
+-- `check` of src/checking.rt: what the check leaves open of its proof.
+-- The typed tree of a unit (C11 6.9), exactly where it has no fault, or the first of its faults by place, and at one place by kind.
 use Rattle.std.proofs.Common.{◌∙◌, sym}
 use Rattle.c_type_walk.specs.Walks.{fixed}
 use Rattle.c_types.proofs.Settled.{settled, typed_as, is_given}

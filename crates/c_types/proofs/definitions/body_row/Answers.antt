@@ -1,3 +1,5 @@
+-- `body_row` of src/definitions.rt: what the check leaves open of its proof.
+-- The body of a function, and its parameters as objects, once all is known of them.
 use Rattle.c_typing.specs.Statements.{block_typing}
 use Rattle.c_types.proofs.Bodies.{with_body, without_body, block_items}
 use Rattle.c_types.proofs.definitions.body_row.Goals as goal

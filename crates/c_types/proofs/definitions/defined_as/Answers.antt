@@ -1,3 +1,5 @@
+-- `defined_as` of src/definitions.rt: what the check leaves open of its proof.
+-- A definition of this type: its name is declared outside of the scope of its parameters.
 use Rattle.std.proofs.Common.{◌≡◌, List}
 use Rattle.c_typing.specs.Units as spec
 use Rattle.c_typing.specs.declared.declarator.Parameter.{Parameter}

@@ -1,3 +1,5 @@
+-- `definition_row` of src/definitions.rt: what the check leaves open of its proof.
+-- A function definition.
 use Rattle.std.proofs.Common.{◌≡◌, ◌∙◌, ap, map}
 use Rattle.c_typing.specs.Declarators.{first_token, name_place}
 use Rattle.c_typing.specs.Trees.{specifier_typing}

@@ -1,3 +1,5 @@
+-- `parameter_objects` of src/definitions.rt: what holds in its loop.
+-- The objects that parameters are, numbered from 0.
 use Rattle.std.proofs.Common.{◌≡◌, ◌++◌, drop}
 use Rattle.c_typing.specs.Units as spec
 use Rattle.c_types.proofs.definitions.parameter_objects.Given as goal

@@ -1,3 +1,5 @@
+-- `parameters_ready` of src/definitions.rt: what holds in its loop.
+-- Parameters of structure types have no typed tree yet.
 use Rattle.std.proofs.Common.{◌≡◌, drop}
 use Rattle.c_types.specs.Definitions as parts
 use Rattle.c_types.proofs.definitions.parameters_ready.Given as goal

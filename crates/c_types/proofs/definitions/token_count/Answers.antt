@@ -1,3 +1,5 @@
+-- `token_count` of src/definitions.rt: what the check leaves open of its proof.
+-- How many tokens a definition has.
 use Rattle.std.proofs.Common.{◌≡◌, ◌∙◌, ap, length, arith}
 use Rattle.std.proofs.lemmas.List.{length-map}
 use Rattle.c_tree.specs.Spelling.Units.{definition_spelling}

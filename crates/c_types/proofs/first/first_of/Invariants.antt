@@ -1,3 +1,5 @@
+-- `first_of` of src/first.rt: what holds in its loop.
+-- The first of some faults.
 use Rattle.std.proofs.Common.{◌≡◌, None, drop}
 use Rattle.c_typing.specs.Faults as spec
 use Rattle.c_types.proofs.first.first_of.Given as goal

@@ -1,3 +1,5 @@
+-- `copied_parts` of src/unit.rt: what holds in its loop.
+-- Parts of static objects as parts of their own.
 use Rattle.std.proofs.Common.{◌≡◌, ◌++◌, drop}
 use Rattle.c_types.proofs.unit.copied_parts.Given as goal
 

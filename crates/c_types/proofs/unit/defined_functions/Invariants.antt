@@ -1,3 +1,5 @@
+-- `defined_functions` of src/unit.rt: what holds in its loop.
+-- The functions that a unit defines, by their names, in order.
 use Rattle.std.proofs.Common.{◌≡◌, ◌++◌, drop, map}
 use Rattle.c_typing.specs.Units as spec
 use Rattle.c_types.proofs.unit.defined_functions.Given as goal

@@ -1,3 +1,5 @@
+-- `file_objects` of src/unit.rt: what the check leaves open of its proof.
+-- The file-level objects that a unit defines, each once, by their names, in order.
 use Rattle.std.proofs.Common.{◌∙◌, ◌<◌, ap, length, arith}
 use Rattle.c_type_declarations.specs.Counting.{named}
 use Rattle.c_types.proofs.FileObjects.{begun, declared, defined}

@@ -1,3 +1,5 @@
+-- `file_objects` of src/unit.rt: what holds in its loop.
+-- The file-level objects that a unit defines, each once, by their names, in order.
 use Rattle.std.proofs.Common.{◌≡◌, [], drop, map}
 use Rattle.c_typing.specs.Units as spec
 use Rattle.c_type_declarations.specs.Counting.{named}

@@ -1,3 +1,5 @@
+-- `outers_row` of src/unit.rt: what the check leaves open of its proof.
+-- Declarations and definitions, in order.
 use Rattle.std.proofs.Common.{◌≡◌, ◌+◌, ◌<◌, refl, sym, subst, List, Option, length, drop, map, arith}
 use Rattle.c_tree.specs.declared.typed.unit.TFunction.{TFunction}
 use Rattle.c_typing.specs.Units as spec

@@ -1,3 +1,5 @@
+-- `outers_row` of src/unit.rt: what holds in its loop.
+-- Declarations and definitions, in order.
 use Rattle.std.proofs.Common.{drop, map}
 use Rattle.c_typing.specs.Units as spec
 use Rattle.c_type_walk.specs.Walks.{fixed}

@@ -1,3 +1,5 @@
+-- `add` of src/counting.rt: what the check leaves open of its proof.
+-- One name more, and whether it is one of a function type.
 use Rattle.c_type_declarations.specs.Counting.{names_in}
 use Rattle.c_type_declarations.proofs.Names.{hides, where_ok}
 use Rattle.c_type_declarations.proofs.counting.FunctionNames.add.Goals as goal

@@ -1,3 +1,5 @@
+-- `has_value` of src/switch.rt: what holds in its loop.
+-- Whether a label has this value.
 use Rattle.std.proofs.Common.{◌≡◌, ◌==◌, drop}
 use Rattle.std.specs.List.{list_any}
 use Rattle.c_type_statements.proofs.switch.Parting.has_value.Given as goal

@@ -1,3 +1,5 @@
+-- `block_row` of src/items.rt: what the check leaves open of its proof.
+-- A block (C11 6.8.2).
 use Rattle.std.proofs.Common.{map}
 use Rattle.c_typing.specs.OfStatements as spec
 use Rattle.c_typing.specs.Statements.{block_item_typing}

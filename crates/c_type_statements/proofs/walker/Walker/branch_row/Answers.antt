@@ -1,3 +1,5 @@
+-- `branch_row` of src/ifs.rt: what the check leaves open of its proof.
+-- A condition and what is done where it holds; the fault of the condition stands at the word.
 use Rattle.c_typing.specs.Statements.{stmt_typing}
 use Rattle.c_typing.specs.Trees.{expr_typing}
 use Rattle.c_typing.specs.OfStatements.{condition_row}

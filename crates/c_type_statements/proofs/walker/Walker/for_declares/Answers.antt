@@ -1,3 +1,5 @@
+-- `for_declares` of src/loops.rt: what the check leaves open of its proof.
+-- A `for` whose head declares: that lies around the loop (C11 6.8.5.3p1).
 use Rattle.std.proofs.Common.{ℕ, subst}
 use Rattle.c_typing.specs.Declarations as declarations
 use Rattle.c_typing.specs.Scopes.{◌>>=◌}

@@ -1,3 +1,5 @@
+-- `for_first` of src/loops.rt: what the check leaves open of its proof.
+-- A `for` whose head is an expression or nothing, which is done first.
 use Rattle.c_typing.specs.Statements.{stmt_typing}
 use Rattle.c_typing.specs.Trees.{expr_typing}
 use Rattle.std.specs.Option.{option_copied, option_map}

@@ -1,3 +1,5 @@
+-- `for_row` of src/loops.rt: what the check leaves open of its proof.
+-- `for` (C11 6.8.5.3).
 use Rattle.c_type_statements.proofs.walker.Walker.for_row.Goals as goal
 
 pub returns-in-Expression : goal.returns-in-Expression

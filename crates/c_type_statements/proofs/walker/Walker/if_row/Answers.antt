@@ -1,3 +1,5 @@
+-- `if_row` of src/ifs.rt: what the check leaves open of its proof.
+-- `if` with each `else` (C11 6.8.4.1).
 use Rattle.c_typing.specs.Statements.{stmt_typing}
 use Rattle.c_typing.specs.Trees.{expr_typing}
 use Rattle.std.proofs.Common.{map}

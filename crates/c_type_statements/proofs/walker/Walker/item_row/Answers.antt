@@ -1,3 +1,5 @@
+-- `item_row` of src/items.rt: what the check leaves open of its proof.
+-- A declaration or a statement; labels stand in the block of a `switch` alone.
 use Rattle.c_typing.specs.Statements.{stmt_typing, block_item_typing-Case, block_item_typing-Declaration, block_item_typing-Default, block_item_typing-Statement}
 use Rattle.c_type_walk.specs.Walks.{fixed}
 use Rattle.c_type_statements.proofs.Rows.{nothing_walked, stated, unstated}

@@ -1,3 +1,5 @@
+-- `items_row` of src/items.rt: what the check leaves open of its proof.
+-- What stands in a block, in order.
 use Rattle.std.proofs.Common.{◌≡◌, ◌+◌, ◌<◌, refl, sym, subst, Option, length, drop, map, arith}
 use Rattle.c_typing.specs.Declarations.{Made}
 use Rattle.c_typing.specs.OfStatements as spec

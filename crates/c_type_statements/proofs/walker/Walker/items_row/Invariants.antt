@@ -1,3 +1,5 @@
+-- `items_row` of src/items.rt: what holds in its loop.
+-- What stands in a block, in order.
 use Rattle.std.proofs.Common.{drop, map}
 use Rattle.c_typing.specs.OfStatements as spec
 use Rattle.c_typing.specs.Statements.{block_item_typing}

@@ -1,3 +1,5 @@
+-- `loop_row` of src/loops.rt: what the check leaves open of its proof.
+-- What is repeated of a `for`.
 use Rattle.c_typing.specs.Statements.{stmt_typing}
 use Rattle.c_typing.specs.OfStatements.{controlling_of}
 use Rattle.c_type_statements.proofs.Rows.{loop_walked}

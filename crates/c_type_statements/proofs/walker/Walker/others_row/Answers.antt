@@ -1,3 +1,5 @@
+-- `others_row` of src/ifs.rt: what the check leaves open of its proof.
+-- The branches behind the first one, and what is done where no condition holds.
 use Rattle.std.proofs.Common.{◌∙◌, ap, sym, subst, List, [], Some, map}
 use Rattle.c_tree.specs.declared.typed.statement.Branch.{Branch}
 use Rattle.c_typing.specs.Declarations.{Made}

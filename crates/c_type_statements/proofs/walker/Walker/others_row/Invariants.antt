@@ -1,3 +1,5 @@
+-- `others_row` of src/ifs.rt: what holds in its loop.
+-- The branches behind the first one, and what is done where no condition holds.
 use Rattle.std.proofs.Common.{drop, map}
 use Rattle.c_typing.specs.OfStatements as spec
 use Rattle.c_typing.specs.Statements.{else_typing}

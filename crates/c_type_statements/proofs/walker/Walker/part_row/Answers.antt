@@ -1,3 +1,5 @@
+-- `part_row` of src/switches.rt: what the check leaves open of its proof.
+-- One item of the body of a `switch`; whether no fault stands in it.
 use Rattle.c_typing.specs.Statements.{block_item_typing-Case, block_item_typing-Declaration, block_item_typing-Default, block_item_typing-Statement}
 use Rattle.c_type_statements.proofs.walker.Walker.part_row.Goals as goal
 

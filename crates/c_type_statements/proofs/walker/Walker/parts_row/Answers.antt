@@ -1,3 +1,5 @@
+-- `parts_row` of src/switches.rt: what the check leaves open of its proof.
+-- The body of a `switch` from label to label.
 use Rattle.std.proofs.Common.{◌≡◌, ◌∙◌, ◌+◌, ◌<◌, ◌&&◌, Bool, List, ap, true, drop, map, length, subst, sym, arith}
 use Rattle.c_tree.specs.declared.typed.statement.Part.{Part}
 use Rattle.c_typing.specs.Scopes.{Walk}

@@ -1,3 +1,5 @@
+-- `parts_row` of src/switches.rt: what holds in its loop.
+-- The body of a `switch` from label to label.
 use Rattle.std.proofs.Common.{true, drop, map}
 use Rattle.c_typing.specs.OfStatements as spec
 use Rattle.c_typing.specs.Statements.{block_item_typing}

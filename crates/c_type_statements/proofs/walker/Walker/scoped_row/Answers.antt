@@ -1,3 +1,5 @@
+-- `scoped_row` of src/walker.rt: what the check leaves open of its proof.
+-- A statement in a scope of its own (C11 6.8.4p3, 6.8.5p5).
 use Rattle.c_typing.specs.Statements.{stmt_typing}
 use Rattle.c_type_walk.specs.Walks.{fixed}
 use Rattle.c_type_walk.proofs.Walked.{in_own_scope}

@@ -1,3 +1,5 @@
+-- `stated_row` of src/switches.rt: what the check leaves open of its proof.
+-- A declaration or a statement, which stands in the present part; whether no fault stands in it.
 use Rattle.std.proofs.Common.{refl}
 use Rattle.c_typing.specs.Statements.{block_item_typing}
 use Rattle.c_type_walk.specs.Walks.{fixed}

@@ -1,3 +1,5 @@
+-- `stmt_row` of src/inside.rt: what the check leaves open of its proof.
+-- A statement (C11 6.8).
 use Rattle.c_typing.specs.Statements.{block_typing-is, stmt_typing-Block, stmt_typing-If, stmt_typing-While, stmt_typing-Do, stmt_typing-For, stmt_typing-Switch, stmt_typing-Break, stmt_typing-Continue, stmt_typing-Return, stmt_typing-Expression}
 use Rattle.c_type_statements.proofs.Rows.{expression_typed}
 use Rattle.c_type_statements.proofs.walker.Walker.stmt_row.Goals as goal

@@ -1,3 +1,5 @@
+-- `switch_body` of src/switches.rt: what the check leaves open of its proof.
+-- The block of a `switch`, which has a scope of its own.
 use Rattle.std.proofs.Common.{ℕ, true, map, subst}
 use Rattle.c_typing.specs.OfStatements as spec
 use Rattle.c_typing.specs.Statements.{block_item_typing}

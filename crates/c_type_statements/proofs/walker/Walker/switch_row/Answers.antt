@@ -1,3 +1,5 @@
+-- `switch_row` of src/switches.rt: what the check leaves open of its proof.
+-- `switch` (C11 6.8.4.2).
 use Rattle.c_typing.specs.Statements.{block_item_typing}
 use Rattle.c_typing.specs.Trees.{expr_typing}
 use Rattle.std.proofs.Common.{map}

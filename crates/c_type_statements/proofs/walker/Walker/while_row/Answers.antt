@@ -1,3 +1,5 @@
+-- `while_row` of src/loops.rt: what the check leaves open of its proof.
+-- `while` (C11 6.8.5.1).
 use Rattle.c_typing.specs.Statements.{stmt_typing}
 use Rattle.c_typing.specs.Trees.{expr_typing}
 use Rattle.c_type_statements.proofs.Rows.{while_walked}

@@ -1,3 +1,5 @@
+-- `all_arguments` of src/suffixes.rt: what the check leaves open of its proof.
+-- A first argument and those behind it.
 use Rattle.std.proofs.Common.{rules}
 use Rattle.c_type_trees.proofs.Nodes.{arguments_begun}
 use Rattle.c_type_trees.proofs.walker.Walker.all_arguments.Goals as goal

@@ -1,3 +1,5 @@
+-- `arguments` of src/suffixes.rt: what the check leaves open of its proof.
+-- The arguments of a call, from left to right (C11 6.5.2.2p4); another suffix has none.
 use Rattle.std.specs.Prelude.{[], Some, None}
 use Rattle.c_typing.specs.Trees.{suffix_typing-Index, suffix_typing-Call, suffix_typing-CallWith, suffix_typing-Member, suffix_typing-Arrow, suffix_typing-Increment, suffix_typing-Decrement}
 use Rattle.c_type_trees.proofs.Nodes.{offered}

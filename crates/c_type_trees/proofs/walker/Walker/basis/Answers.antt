@@ -1,3 +1,5 @@
+-- `basis` of src/specifying.rt: what the check leaves open of its proof.
+-- What specifiers are as a whole (C11 6.7); whether they stand alone, without a declarator behind them, matters to a tag (C11 6.7.2.3p7).
 use Rattle.std.proofs.Common.{◌+◌, ◌∙◌, ap, sym, subst, map, drop}
 use Rattle.std.specs.Prelude.{None}
 use Rattle.c_tree.specs.declared.token.Pos.{Pos}

@@ -1,3 +1,5 @@
+-- `basis` of src/specifying.rt: what holds in its loop.
+-- What specifiers are as a whole (C11 6.7); whether they stand alone, without a declarator behind them, matters to a tag (C11 6.7.2.3p7).
 use Rattle.std.proofs.Common.{◌≡◌, drop, map}
 use Rattle.c_typing.specs.Scopes.{◌>>=◌, asked}
 use Rattle.c_typing.specs.Declarators.{specifiers_row, read_specifiers, basis_of, first_token}

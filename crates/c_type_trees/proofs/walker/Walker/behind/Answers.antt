@@ -1,3 +1,5 @@
+-- `behind` of src/expressions.rt: what the check leaves open of its proof.
+-- What stands behind the operand with which an expression begins.
 use Rattle.c_type_trees.proofs.Begins.{out_Name, out_Number, out_Char, out_Strings, out_Paren, out_Postfix, out_SizeofType, out_Prefixed, out_Binary, out_Conditional, out_Assign, out_Comma}
 use Rattle.c_type_trees.proofs.Nodes.{offered}
 use Rattle.c_type_trees.proofs.walker.Walker.behind.Goals as goal

@@ -1,3 +1,5 @@
+-- `behind_all` of src/expressions.rt: what the check leaves open of its proof.
+-- What stands behind the operands with which expressions begin, of which the last is the innermost.
 use Rattle.std.proofs.Common.{◌∙◌, ap}
 use Rattle.c_type_trees.specs.Operands.{behind_all}
 use Rattle.c_type_trees.proofs.After.{after, done}

@@ -1,3 +1,5 @@
+-- `binaries` of src/operators.rt: what holds in its loop.
+-- Operators that are read from left to right (C11 6.5.5 to 6.5.12).
 use Rattle.std.proofs.Common.{◌≡◌, drop, map}
 use Rattle.c_typing.specs.OfTrees.{binaries_row}
 use Rattle.c_typing.specs.Trees.{next_typing}

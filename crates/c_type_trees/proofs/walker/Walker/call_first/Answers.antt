@@ -1,3 +1,5 @@
+-- `call_first` of src/suffixes.rt: what the check leaves open of its proof.
+-- Suffixes of which the first is the call of a name (C11 6.5.2.2).
 use Rattle.std.proofs.Common.{sym, map, subst}
 use Rattle.std.specs.Prelude.{List}
 use Rattle.c_tree.specs.declared.expression.Suffix.{Suffix}

@@ -1,3 +1,5 @@
+-- `comma` of src/operators.rt: what the check leaves open of its proof.
+-- `,` (C11 6.5.17): the values of all operands but the last are dropped.
 use Rattle.std.proofs.Common.{◌∙◌, ap, sym, map}
 use Rattle.std.specs.Prelude.{[]}
 use Rattle.c_typing.specs.OfTrees.{commas_row}

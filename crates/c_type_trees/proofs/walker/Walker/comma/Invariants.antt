@@ -1,3 +1,5 @@
+-- `comma` of src/operators.rt: what holds in its loop.
+-- `,` (C11 6.5.17): the values of all operands but the last are dropped.
 use Rattle.std.proofs.Common.{◌≡◌, [], drop, map}
 use Rattle.c_typing.specs.OfTrees.{commas_row}
 use Rattle.c_typing.specs.Trees.{next_typing}

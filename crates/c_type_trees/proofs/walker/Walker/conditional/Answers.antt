@@ -1,3 +1,5 @@
+-- `conditional` of src/operators.rt: what the check leaves open of its proof.
+-- `? :` (C11 6.5.15): the operands are walked from left to right, and the chain is made from its right end.
 use Rattle.std.proofs.Common.{◌∙◌, ap, sym, map}
 use Rattle.c_typing.specs.Scopes.{◌>>=◌}
 use Rattle.c_typing.specs.OfTrees.{chain_row}

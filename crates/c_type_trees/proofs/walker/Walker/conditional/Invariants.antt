@@ -1,3 +1,5 @@
+-- `conditional` of src/operators.rt: what holds in its loop.
+-- `? :` (C11 6.5.15): the operands are walked from left to right, and the chain is made from its right end.
 use Rattle.std.proofs.Common.{◌≡◌, drop, map}
 use Rattle.c_typing.specs.Scopes.{◌>>=◌}
 use Rattle.c_typing.specs.OfTrees.{chain_row}

@@ -1,3 +1,5 @@
+-- `declared_type` of src/walker.rt: what the check leaves open of its proof.
+-- The type that a declarator makes of another one (C11 6.7.6p4, p5); the place stands for the name where there is none.
 use Rattle.std.proofs.Common.{◌≡◌}
 use Rattle.c_typing.specs.Declarators.{name_place}
 use Rattle.c_typing.specs.Trees.{declarator_typing}

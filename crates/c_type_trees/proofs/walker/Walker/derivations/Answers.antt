@@ -1,3 +1,5 @@
+-- `derivations` of src/declarators.rt: what the check leaves open of its proof.
+-- The derivations of a declarator, each applied to the type before it; the parameters of the part beside the name are kept in scope where it is that of a definition.
 use Rattle.std.proofs.Common.{◌≡◌, map}
 use Rattle.std.specs.Prelude.{◌&&◌, not, is_some}
 use Rattle.c_tree.specs.declared.declarator.Declarator.{out-Declarator}

@@ -1,3 +1,5 @@
+-- `direct_parts` of src/declarators.rt: what the check leaves open of its proof.
+-- The derivations of a declarator's middle.
 use Rattle.std.specs.Prelude.{[], Some}
 use Rattle.c_typing.specs.Trees.{direct_typing-Nothing, direct_typing-Named, direct_typing-Grouped}
 use Rattle.c_type_trees.proofs.Nodes.{offered}

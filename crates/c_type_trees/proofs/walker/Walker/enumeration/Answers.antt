@@ -1,3 +1,5 @@
+-- `enumeration` of src/specifying.rt: what the check leaves open of its proof.
+-- An enumeration and its enumerators, the first from 0 (C11 6.7.2.2).
 use Rattle.std.proofs.Common.{◌∙◌, ap, sym, map}
 use Rattle.std.specs.Prelude.{Some}
 use Rattle.c_typing.specs.Scopes.{offer}

@@ -1,3 +1,5 @@
+-- `enumeration` of src/specifying.rt: what holds in its loop.
+-- An enumeration and its enumerators, the first from 0 (C11 6.7.2.2).
 use Rattle.std.proofs.Common.{◌≡◌, drop, map}
 use Rattle.c_typing.specs.Declarators.{enum_row}
 use Rattle.c_typing.specs.Trees.{enumerator_typing}

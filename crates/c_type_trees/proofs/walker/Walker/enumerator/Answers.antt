@@ -1,3 +1,5 @@
+-- `enumerator` of src/specifying.rt: what the check leaves open of its proof.
+-- An enumerator, from the value that it has without an expression (C11 6.7.2.2p3).
 use Rattle.c_typing.specs.Trees.{expr_typing, enumerator_typing-Plain, enumerator_typing-Valued}
 use Rattle.c_type_trees.proofs.Arms.{enumerated}
 use Rattle.c_type_trees.proofs.walker.Walker.enumerator.Goals as goal

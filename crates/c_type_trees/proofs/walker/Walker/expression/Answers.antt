@@ -1,3 +1,5 @@
+-- `expression` of src/expressions.rt: what the check leaves open of its proof.
+-- What typing makes of an expression.
 use Rattle.std.proofs.Common.{refl, sym}
 use Rattle.c_typing.specs.Trees.{expr_typing}
 use Rattle.c_type_trees.proofs.After.{same_sym, bind_offer}

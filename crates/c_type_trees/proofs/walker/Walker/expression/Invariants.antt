@@ -1,3 +1,5 @@
+-- `expression` of src/expressions.rt: what holds in its loop, and why that ends.
+-- What typing makes of an expression.
 use Rattle.c_tree.specs.declared.expression.Expr.{size-Expr}
 use Rattle.c_typing.specs.Scopes.{◌>>=◌}
 use Rattle.c_typing.specs.Trees.{expr_typing}

@@ -1,3 +1,5 @@
+-- `listed` of src/parameters.rt: what the check leaves open of its proof.
+-- The parameters of such a list.
 use Rattle.c_type_trees.proofs.walker.Walker.listed.Goals as goal
 
 pub returns-then-defining : goal.returns-then-defining

@@ -1,3 +1,5 @@
+-- `logical` of src/operators.rt: what the check leaves open of its proof.
+-- `||` or `&&` (C11 6.5.14, 6.5.13).
 use Rattle.c_type_trees.proofs.Arms.{logical_walked, logical_alone}
 use Rattle.c_type_trees.proofs.walker.Walker.logical.Goals as goal
 

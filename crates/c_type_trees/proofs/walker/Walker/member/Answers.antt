@@ -1,3 +1,5 @@
+-- `member` of src/members.rt: what the check leaves open of its proof.
+-- A declaration of members.
 use Rattle.std.proofs.Common.{map}
 use Rattle.std.specs.Prelude.{false}
 use Rattle.c_tree.specs.declared.specifier.Member.{out-Member}

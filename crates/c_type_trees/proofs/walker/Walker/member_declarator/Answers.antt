@@ -1,3 +1,5 @@
+-- `member_declarator` of src/members.rt: what the check leaves open of its proof.
+-- A member's declarator.
 use Rattle.c_tree.specs.declared.specifier.MemberDeclarator.{out-MemberDeclarator}
 use Rattle.c_typing.specs.Trees.{declarator_typing, member_declarator_typing-is}
 use Rattle.c_type_trees.proofs.Arms.{membered}

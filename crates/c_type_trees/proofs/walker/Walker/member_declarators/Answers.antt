@@ -1,3 +1,5 @@
+-- `member_declarators` of src/members.rt: what the check leaves open of its proof.
+-- The declarators of a declaration of members.
 use Rattle.std.proofs.Common.{◌∙◌, ap, sym, map}
 use Rattle.std.specs.Prelude.{Some}
 use Rattle.c_typing.specs.Scopes.{◌>>=◌, in_row}

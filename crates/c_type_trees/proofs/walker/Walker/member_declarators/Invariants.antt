@@ -1,3 +1,5 @@
+-- `member_declarators` of src/members.rt: what holds in its loop.
+-- The declarators of a declaration of members.
 use Rattle.std.proofs.Common.{◌≡◌, drop, map}
 use Rattle.c_typing.specs.Scopes.{◌>>=◌, in_row}
 use Rattle.c_typing.specs.Declarators.{one_member}

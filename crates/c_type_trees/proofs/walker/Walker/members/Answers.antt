@@ -1,3 +1,5 @@
+-- `members` of src/members.rt: what the check leaves open of its proof.
+-- The members of a structure, where no fault stands in a declaration of them.
 use Rattle.std.proofs.Common.{◌∙◌, ap, sym, map}
 use Rattle.std.specs.Prelude.{Some}
 use Rattle.c_typing.specs.Scopes.{◌>>=◌, in_row}

@@ -1,3 +1,5 @@
+-- `members` of src/members.rt: what holds in its loop.
+-- The members of a structure, where no fault stands in a declaration of them.
 use Rattle.std.proofs.Common.{◌≡◌, drop, map}
 use Rattle.c_typing.specs.Scopes.{◌>>=◌, in_row}
 use Rattle.c_typing.specs.Trees.{member_typing}

@@ -1,3 +1,5 @@
+-- `more_arguments` of src/suffixes.rt: what the check leaves open of its proof.
+-- Arguments behind those that were walked.
 use Rattle.std.proofs.Common.{◌∙◌}
 use Rattle.std.specs.Prelude.{Some}
 use Rattle.std.proofs.lemmas.List.{at_drop_all}

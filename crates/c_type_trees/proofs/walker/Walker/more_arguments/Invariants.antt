@@ -1,3 +1,5 @@
+-- `more_arguments` of src/suffixes.rt: what holds in its loop.
+-- Arguments behind those that were walked.
 use Rattle.std.proofs.Common.{◌≡◌, drop}
 use Rattle.c_type_trees.specs.Calls.{more_arguments}
 use Rattle.c_type_trees.proofs.After.{after}

@@ -1,3 +1,5 @@
+-- `operators` of src/operators.rt: what the check leaves open of its proof.
+-- Operators of one level behind their first operand (C11 6.5.5 to 6.5.14).
 use Rattle.std.proofs.Common.{map}
 use Rattle.c_typing.specs.Trees.{next_typing}
 use Rattle.c_type_trees.proofs.Nodes.{level_plain}

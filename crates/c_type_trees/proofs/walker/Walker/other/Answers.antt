@@ -1,3 +1,5 @@
+-- `other` of src/expressions.rt: what the check leaves open of its proof.
+-- An expression that begins with no operand, or with one that may be the name of a function.
 use Rattle.std.proofs.Common.{refl}
 use Rattle.std.specs.Prelude.{None}
 use Rattle.c_type_trees.proofs.After.{answered}

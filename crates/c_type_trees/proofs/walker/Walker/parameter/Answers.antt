@@ -1,3 +1,5 @@
+-- `parameter` of src/parameters.rt: what the check leaves open of its proof.
+-- A parameter of this number.
 use Rattle.std.proofs.Common.{◌∙◌, ap, map}
 use Rattle.c_tree.specs.declared.declarator.Parameter.{out-Parameter}
 use Rattle.c_typing.specs.Declarators.{first_token}

@@ -1,3 +1,5 @@
+-- `parameter_list` of src/parameters.rt: what the check leaves open of its proof.
+-- A parameter list: that of a definition stays in scope, and that of a declaration is a scope of its own (C11 6.2.1p4).
 use Rattle.std.proofs.Common.{map}
 use Rattle.c_typing.specs.OfTrees.{parameters_row}
 use Rattle.c_typing.specs.Trees.{parameter_typing}

@@ -1,3 +1,5 @@
+-- `parameter_type` of src/parameters.rt: what the check leaves open of its proof.
+-- The type of a parameter as adjusted (C11 6.7.6.3p7).
 use Rattle.std.proofs.Common.{◌≡◌}
 use Rattle.c_typing.specs.Declarators.{name_place}
 use Rattle.c_typing.specs.Trees.{declarator_typing}

@@ -1,3 +1,5 @@
+-- `parameters` of src/parameters.rt: what the check leaves open of its proof.
+-- Parameters, numbered from 0.
 use Rattle.std.proofs.Common.{◌∙◌, ap, sym, map}
 use Rattle.std.specs.Prelude.{Some}
 use Rattle.c_typing.specs.Scopes.{◌>>=◌}

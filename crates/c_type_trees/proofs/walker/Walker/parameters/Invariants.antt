@@ -1,3 +1,5 @@
+-- `parameters` of src/parameters.rt: what holds in its loop.
+-- Parameters, numbered from 0.
 use Rattle.std.proofs.Common.{◌≡◌, drop, map}
 use Rattle.c_typing.specs.Scopes.{◌>>=◌}
 use Rattle.c_typing.specs.OfTrees.{parameters_row}

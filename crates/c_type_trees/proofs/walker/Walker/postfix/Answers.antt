@@ -1,3 +1,5 @@
+-- `postfix` of src/suffixes.rt: what the check leaves open of its proof.
+-- An operand and the suffixes behind it; a name directly before the `(` of a call is that of a function (C11 6.5.2.2p1).
 use Rattle.std.proofs.Common.{sym, map}
 use Rattle.c_typing.specs.Trees.{expr_typing, suffix_typing}
 use Rattle.c_type_trees.proofs.Arms.{postfix_plain, postfix_called}

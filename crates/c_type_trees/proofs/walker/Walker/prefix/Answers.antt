@@ -1,3 +1,5 @@
+-- `prefix` of src/prefixes.rt: what the check leaves open of its proof.
+-- What a prefix does to the operand behind it.
 use Rattle.c_typing.specs.Trees.{type_name_typing, prefix_typing-Operator, prefix_typing-Sizeof, prefix_typing-Cast}
 use Rattle.c_type_trees.proofs.Nodes.{offered, cast_walked}
 use Rattle.c_type_trees.proofs.walker.Walker.prefix.Goals as goal

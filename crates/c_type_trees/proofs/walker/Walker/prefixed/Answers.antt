@@ -1,3 +1,5 @@
+-- `prefixed` of src/prefixes.rt: what the check leaves open of its proof.
+-- Prefixes, and the operand behind them.
 use Rattle.std.proofs.Common.{map}
 use Rattle.std.specs.Option.{option_map}
 use Rattle.c_typing.specs.Scopes.{◌>>=◌, asked}

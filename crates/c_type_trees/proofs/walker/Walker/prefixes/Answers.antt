@@ -1,3 +1,5 @@
+-- `prefixes` of src/prefixes.rt: what the check leaves open of its proof.
+-- Prefixes, from left to right.
 use Rattle.std.proofs.Common.{◌∙◌, ap, sym, map}
 use Rattle.std.specs.Prelude.{[], ◌∷◌, Some}
 use Rattle.std.specs.Option.{option_map}

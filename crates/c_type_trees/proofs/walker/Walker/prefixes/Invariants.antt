@@ -1,3 +1,5 @@
+-- `prefixes` of src/prefixes.rt: what holds in its loop.
+-- Prefixes, from left to right.
 use Rattle.std.proofs.Common.{◌≡◌, drop, map}
 use Rattle.std.specs.Option.{option_map}
 use Rattle.c_typing.specs.Scopes.{◌>>=◌}

@@ -1,3 +1,5 @@
+-- `prototype` of src/parameters.rt: what the check leaves open of its proof.
+-- A parameter list of a declaration is a scope of its own (C11 6.2.1p4), in which no object stands.
 use Rattle.std.proofs.Common.{ap, map, rules, arith}
 use Rattle.std.specs.Prelude.{false}
 use Rattle.std.proofs.lemmas.Grind.{common_steps}

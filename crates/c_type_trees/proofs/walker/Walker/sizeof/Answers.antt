@@ -1,3 +1,5 @@
+-- `sizeof` of src/prefixes.rt: what the check leaves open of its proof.
+-- `sizeof` of a type (C11 6.5.3.4).
 use Rattle.c_typing.specs.Scopes.{asked}
 use Rattle.c_typing.specs.Expressions.{size_row}
 use Rattle.c_typing.specs.Trees.{type_name_typing}

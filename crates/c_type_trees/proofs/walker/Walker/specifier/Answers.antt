@@ -1,3 +1,5 @@
+-- `specifier` of src/specifying.rt: what the check leaves open of its proof.
+-- A specifier more (C11 6.7).
 use Rattle.std.proofs.Common.{map, refl}
 use Rattle.c_typing.specs.Declarators.{struct_tag_row, enum_tag_row, struct_row, enum_row, typedef_name_row}
 use Rattle.c_typing.specs.Trees.{member_typing, enumerator_typing, specifier_typing-Storage, specifier_typing-Const, specifier_typing-Word, specifier_typing-StructTag, specifier_typing-Struct, specifier_typing-EnumTag, specifier_typing-Enum, specifier_typing-TypedefName}

@@ -1,3 +1,5 @@
+-- `structure` of src/members.rt: what the check leaves open of its proof.
+-- A structure and its members.
 use Rattle.std.proofs.Common.{◌≡◌, map}
 use Rattle.c_typing.specs.Declarators.{tag_place}
 use Rattle.c_typing.specs.Trees.{member_typing}

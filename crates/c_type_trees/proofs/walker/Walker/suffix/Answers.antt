@@ -1,3 +1,5 @@
+-- `suffix` of src/suffixes.rt: what the check leaves open of its proof.
+-- A suffix behind an operand.
 use Rattle.std.specs.Prelude.{◌∷◌}
 use Rattle.c_tree.specs.declared.refusal.FaultKind.TheVariants as kind
 use Rattle.c_typing.specs.Scopes.{tell, asked, both_asked}

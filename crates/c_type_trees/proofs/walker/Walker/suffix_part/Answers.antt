@@ -1,3 +1,5 @@
+-- `suffix_part` of src/declarators.rt: what the check leaves open of its proof.
+-- An array or a parameter list behind a declarator's middle (C11 6.7.6.2, 6.7.6.3).
 use Rattle.c_typing.specs.Trees.{expr_typing, declarator_suffix_typing-Array, declarator_suffix_typing-ArrayOf, declarator_suffix_typing-Empty, declarator_suffix_typing-Void, declarator_suffix_typing-Parameters}
 use Rattle.c_type_trees.specs.Sequences.{sized_row}
 use Rattle.c_type_trees.proofs.Arms.{then_walk}

@@ -1,3 +1,5 @@
+-- `suffixes` of src/suffixes.rt: what holds in its loop.
+-- Suffixes behind an operand, from left to right.
 use Rattle.std.proofs.Common.{◌≡◌, drop, map}
 use Rattle.c_typing.specs.OfTrees.{suffixes_row}
 use Rattle.c_typing.specs.Trees.{suffix_typing}

@@ -1,3 +1,5 @@
+-- `suffixes_parts` of src/declarators.rt: what the check leaves open of its proof.
+-- What stands behind a declarator's middle, in order; the first stands beside the name, where nothing else does.
 use Rattle.std.proofs.Common.{◌∙◌, ap, sym, map}
 use Rattle.std.specs.Prelude.{Some}
 use Rattle.c_typing.specs.Scopes.{◌>>=◌}

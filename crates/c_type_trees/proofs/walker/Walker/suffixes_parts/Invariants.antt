@@ -1,3 +1,5 @@
+-- `suffixes_parts` of src/declarators.rt: what holds in its loop.
+-- What stands behind a declarator's middle, in order; the first stands beside the name, where nothing else does.
 use Rattle.std.proofs.Common.{◌≡◌, drop, map}
 use Rattle.c_typing.specs.Scopes.{◌>>=◌}
 use Rattle.c_typing.specs.OfTrees.{suffixes_parts}

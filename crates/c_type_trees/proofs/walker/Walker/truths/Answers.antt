@@ -1,3 +1,5 @@
+-- `truths` of src/operators.rt: what the check leaves open of its proof.
+-- The operands of `||` or `&&` behind the first, with those before them.
 use Rattle.std.proofs.Common.{map}
 use Rattle.c_typing.specs.OfTrees.{truths_row}
 use Rattle.c_typing.specs.Trees.{next_typing}

@@ -1,3 +1,5 @@
+-- `truths` of src/operators.rt: what holds in its loop.
+-- The operands of `||` or `&&` behind the first, with those before them.
 use Rattle.std.proofs.Common.{◌≡◌, drop, map}
 use Rattle.c_typing.specs.OfTrees.{truths_row}
 use Rattle.c_typing.specs.Trees.{next_typing}

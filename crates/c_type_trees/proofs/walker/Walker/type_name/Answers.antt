@@ -1,3 +1,5 @@
+-- `type_name` of src/walker.rt: what the check leaves open of its proof.
+-- The type that a type name names (C11 6.7.7), at the operator to which it belongs.
 use Rattle.std.proofs.Common.{map}
 use Rattle.std.specs.Prelude.{false}
 use Rattle.std.specs.Option.{option_map}

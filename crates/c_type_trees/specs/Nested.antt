@@ -1,8 +1,6 @@
--- A function value that walks over a tree inside another, where so many trees may stand inside one another.
-use Rattle.std.specs.Prelude.{ℕ, Result, Ok, Err, map}
-use Rattle.std.specs.Borrow.{Bor}
-use Rattle.std.specs.declared.alloc.Global.{Global}
-use denote.Ref.{MutBor}
+-- What is meant of a tree that stands inside another: the walk of the definition, by the kind of the tree.
+-- Each walk of this crate requires it, by `Nests`, of the function value that it goes into trees by.
+use Rattle.std.specs.Prelude.{Result, Ok, Err, map}
 use Rattle.word_ops.specs.declared.memory.Memory.{Memory}
 use Rattle.c_typing.specs.Declarators.{specifiers_row}
 use Rattle.c_typing.specs.Trees.{expr_typing, specifier_typing, declarator_typing}
@@ -25,9 +23,3 @@ Comes t c old v new = ⊥
 abbrev pub WalksTree : Tree → Around → Found → Result Typed Memory → Found → Type 0
 WalksTree t c old (Ok v) new = Comes t c old v new
 WalksTree t c old (Err e) new = Unit {0}
-
-pub record Nests (more : ℕ) (pre : Global → MutBor Found → Bor Around → ℕ → Tree → Type 0)
-    (post : Global → MutBor Found → Bor Around → ℕ → Tree → Result Typed Memory → MutBor Found → Type 0) : Type 0 where
-  pub callable : (alloc : Global) (old : MutBor Found) (around : Bor Around) (tree : Tree) → pre alloc old around more tree
-  pub walks : (alloc : Global) (old new : MutBor Found) (around : Bor Around) (tree : Tree) (r : Result Typed Memory)
-      → post alloc old around more tree r new → WalksTree tree around.now old.now r new.now
