@@ -4,15 +4,16 @@ use crate::answers::{
     put_declarator_answer, put_end, put_expression_answer, put_parse_fault, put_specifiers_answer,
 };
 use crate::outline::put_externals;
-use crate::tokens::{put_lex_fault, put_tokens};
-use crate::typed::{put_addresses, put_given, put_types};
+use crate::tokens::{are_of_kinds, put_lex_fault, put_tokens};
+use crate::typed::{put_addresses, put_fault, put_given};
 use c_expr_parser::{Names, Use, assignment, conditional, declarator, expression, specifiers};
 use c_lexer::lex;
-use c_tree::{External, Tokens, Unit, spell, spell_definition};
+use c_tree::typed::Typed;
+use c_tree::{Definition, External, TokenKind, Tokens, Unit, spell, spell_definition};
 use c_types::check;
 use c_unit_parser::parse;
 use scope_map::ScopeMap;
-use std::alloc::Global;
+use std::alloc::{AllocError, Global};
 use word_ops::{Memory, Text};
 
 /// A call of a layer, and how its answer is told.
@@ -110,7 +111,7 @@ pub fn answer(alloc: Global, call: Call, source: &[u8]) -> Result<String, Memory
 /// Puts what a call answers to tokens.
 fn put_answer(alloc: Global, out: &mut String, call: Call, tokens: &Tokens) -> Result<(), Memory> {
     match call {
-        Call::Tokens => Ok(put_tokens(out, tokens)?),
+        Call::Tokens => put_tokens(out, tokens).map_err(Memory::from),
         Call::Expression | Call::Assignment | Call::Conditional => {
             put_read_expression(alloc, out, call, tokens)
         }
@@ -148,7 +149,7 @@ fn put_read_expression(
         Call::Conditional => conditional(alloc, tokens, 0, &mut names, 0),
         _ => expression(alloc, tokens, 0, &mut names, 0),
     };
-    Ok(put_expression_answer(out, &read)?)
+    put_expression_answer(out, &read).map_err(Memory::from)
 }
 
 /// Puts only the place behind what was read.
@@ -170,7 +171,7 @@ fn put_read_end(
             declarator(alloc, tokens, 0, &mut names, 0, Use::Declaring, true).map(|read| read.1)
         }
     };
-    Ok(put_end(out, &end)?)
+    put_end(out, &end).map_err(Memory::from)
 }
 
 fn put_read_specifiers(
@@ -181,8 +182,10 @@ fn put_read_specifiers(
 ) -> Result<(), Memory> {
     let mut names = with_t(alloc)?;
     let read = specifiers(alloc, tokens, 0, &mut names, 0, storage);
-    put_specifiers_answer(out, &read)?;
-    put_names(alloc, out, &names)
+    match put_specifiers_answer(out, &read) {
+        Ok(()) => put_names(alloc, out, &names),
+        Err(_) => Err(Memory),
+    }
 }
 
 fn put_read_declarator(
@@ -194,8 +197,10 @@ fn put_read_declarator(
 ) -> Result<(), Memory> {
     let mut names = with_t(alloc)?;
     let read = declarator(alloc, tokens, 0, &mut names, 0, purpose, typed);
-    put_declarator_answer(out, &read)?;
-    put_names(alloc, out, &names)
+    match put_declarator_answer(out, &read) {
+        Ok(()) => put_names(alloc, out, &names),
+        Err(_) => Err(Memory),
+    }
 }
 
 /// Puts how many names there are, and whether `T` is a typedef name.
@@ -206,7 +211,7 @@ fn put_names(alloc: Global, out: &mut String, names: &Names) -> Result<(), Memor
         Some(false) => "no type",
         None => "no name",
     };
-    Ok(write!(out, "; names {}, T {kind}", names.mark())?)
+    write!(out, "; names {}, T {kind}", names.mark()).map_err(Memory::from)
 }
 
 fn put_read_unit(
@@ -217,7 +222,7 @@ fn put_read_unit(
 ) -> Result<(), Memory> {
     match parse(alloc, tokens) {
         Ok(unit) => put_unit(alloc, out, call, tokens, &unit),
-        Err(fault) => Ok(put_parse_fault(out, &fault)?),
+        Err(fault) => put_parse_fault(out, &fault).map_err(Memory::from),
     }
 }
 
@@ -232,36 +237,62 @@ fn put_unit(
     match call {
         Call::Count => put_count(alloc, out, tokens, unit),
         Call::Definitions => put_lengths(alloc, out, unit.items.as_slice()),
-        Call::Types => Ok(put_types(out, &check(alloc, unit))?),
-        Call::Given => Ok(put_given(out, &check(alloc, unit))?),
-        Call::Addresses => Ok(put_addresses(out, &check(alloc, unit))?),
-        _ => Ok(put_externals(out, unit.items.as_slice())?),
+        Call::Unit => put_externals(out, unit.items.as_slice()).map_err(Memory::from),
+        call => put_checked(alloc, out, call, unit).map_err(Memory::from),
+    }
+}
+
+/// Puts what a call answers to a unit and its types.
+fn put_checked(
+    alloc: Global,
+    out: &mut String,
+    call: Call,
+    unit: &Unit,
+) -> Result<(), AllocError> {
+    match check(alloc, unit) {
+        Ok(typed) => put_typed(out, call, &typed),
+        Err(fault) => put_fault(out, &fault),
+    }
+}
+
+fn put_typed(out: &mut String, call: Call, typed: &Typed) -> Result<(), AllocError> {
+    match call {
+        Call::Given => put_given(out, typed),
+        Call::Addresses => put_addresses(out, typed),
+        _ => out.push_str("typed"),
     }
 }
 
 /// Puts how many tokens the unit is spelt by, where the source ends, and whether the tokens are those of the source.
 fn put_count(alloc: Global, out: &mut String, tokens: &Tokens, unit: &Unit) -> Result<(), Memory> {
-    let (mut read, mut spelt) = (String::new(alloc), String::new(alloc));
-    for token in tokens.list.as_slice() {
-        write!(read, "{:?} ", token.kind)?;
-    }
     let kinds = spell(alloc, unit)?;
-    for kind in &kinds {
-        write!(spelt, "{kind:?} ")?;
-    }
-    if read.as_str() != spelt.as_str() {
+    put_spelling(alloc, out, tokens, kinds.as_slice())
+}
+
+fn put_spelling(
+    alloc: Global,
+    out: &mut String,
+    tokens: &Tokens,
+    kinds: &[TokenKind],
+) -> Result<(), Memory> {
+    if !are_of_kinds(alloc, tokens.list.as_slice(), kinds)? {
         out.push_str("others: ")?;
     }
     let end = tokens.end;
-    Ok(write!(out, "{} tokens to {}:{}", kinds.len(), end.line, end.column)?)
+    write!(out, "{} tokens to {}:{}", kinds.len(), end.line, end.column).map_err(Memory::from)
 }
 
 /// Puts how many tokens each function definition is spelt by.
 fn put_lengths(alloc: Global, out: &mut String, items: &[External]) -> Result<(), Memory> {
     for item in items {
         if let External::Definition(definition) = item {
-            write!(out, "{} ", spell_definition(alloc, definition)?.len())?;
+            put_length(alloc, out, definition)?;
         }
     }
     Ok(())
+}
+
+fn put_length(alloc: Global, out: &mut String, definition: &Definition) -> Result<(), Memory> {
+    let kinds = spell_definition(alloc, definition)?;
+    write!(out, "{} ", kinds.len()).map_err(Memory::from)
 }

@@ -2,7 +2,7 @@
 
 use c_lexer::LexFault;
 use c_tree::{Token, TokenKind, Tokens};
-use std::alloc::AllocError;
+use std::alloc::{AllocError, Global};
 use word_ops::Text;
 
 /// Puts a text's bytes as characters.
@@ -53,4 +53,31 @@ pub fn put_lex_fault(out: &mut String, fault: &LexFault) -> Result<(), AllocErro
         }
         LexFault::Memory => out.push_str("Memory"),
     }
+}
+
+/// Whether tokens are of these kinds.
+pub fn are_of_kinds(
+    alloc: Global,
+    tokens: &[Token],
+    kinds: &[TokenKind],
+) -> Result<bool, AllocError> {
+    let read = tokens_shown(alloc, tokens)?;
+    let wanted = kinds_shown(alloc, kinds)?;
+    Ok(read.as_str() == wanted.as_str())
+}
+
+fn tokens_shown(alloc: Global, tokens: &[Token]) -> Result<String, AllocError> {
+    let mut out = String::new(alloc);
+    for token in tokens {
+        write!(out, "{:?} ", token.kind)?;
+    }
+    Ok(out)
+}
+
+fn kinds_shown(alloc: Global, kinds: &[TokenKind]) -> Result<String, AllocError> {
+    let mut out = String::new(alloc);
+    for kind in kinds {
+        write!(out, "{kind:?} ")?;
+    }
+    Ok(out)
 }

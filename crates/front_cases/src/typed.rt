@@ -1,38 +1,22 @@
 //! What `check` answers to a unit, as text.
 
-use c_tree::typed::{Primary, StaticObject, StaticPart, TExpr, TStmt, Typed};
+use c_tree::typed::{Primary, StaticPart, TExpr, TStmt, Typed};
 use c_types::CheckFault;
 use std::alloc::AllocError;
 
-/// Puts `typed`, or the fault and its place.
-pub fn put_types(
-    out: &mut String,
-    answer: &Result<Typed, CheckFault>,
-) -> Result<(), AllocError> {
-    match answer {
-        Ok(_) => out.push_str("typed"),
-        Err(fault) => put_fault(out, fault),
-    }
-}
-
-fn put_fault(out: &mut String, fault: &CheckFault) -> Result<(), AllocError> {
+/// Puts a fault of types and its place.
+pub fn put_fault(out: &mut String, fault: &CheckFault) -> Result<(), AllocError> {
     match fault {
         CheckFault::Fault(kind, at) => write!(out, "{kind:?} {}:{}", at.line, at.column),
         CheckFault::Memory => out.push_str("Memory"),
     }
 }
 
-/// Puts the number that the one statement of `main`, a `return`, gives back, or the fault.
-pub fn put_given(
-    out: &mut String,
-    answer: &Result<Typed, CheckFault>,
-) -> Result<(), AllocError> {
-    match answer {
-        Ok(typed) => match number_given(typed) {
-            Some(number) => write!(out, "{number}"),
-            None => out.push_str("no number"),
-        },
-        Err(fault) => put_fault(out, fault),
+/// Puts the number that the one statement of `main`, a `return`, gives back.
+pub fn put_given(out: &mut String, typed: &Typed) -> Result<(), AllocError> {
+    match number_given(typed) {
+        Some(number) => write!(out, "{number}"),
+        None => out.push_str("no number"),
     }
 }
 
@@ -62,19 +46,9 @@ fn number(value: &TExpr) -> Option<u32> {
     }
 }
 
-/// Puts where the addresses with which static objects begin lie in their objects, or the fault.
-pub fn put_addresses(
-    out: &mut String,
-    answer: &Result<Typed, CheckFault>,
-) -> Result<(), AllocError> {
-    match answer {
-        Ok(typed) => put_all_places(out, typed.objects.as_slice()),
-        Err(fault) => put_fault(out, fault),
-    }
-}
-
-fn put_all_places(out: &mut String, objects: &[StaticObject]) -> Result<(), AllocError> {
-    for object in objects {
+/// Puts where the addresses with which static objects begin lie in their objects.
+pub fn put_addresses(out: &mut String, typed: &Typed) -> Result<(), AllocError> {
+    for object in typed.objects.as_slice() {
         put_places(out, object.parts.as_slice())?;
     }
     Ok(())
