@@ -243,12 +243,7 @@ fn put_unit(
 }
 
 /// Puts what a call answers to a unit and its types.
-fn put_checked(
-    alloc: Global,
-    out: &mut String,
-    call: Call,
-    unit: &Unit,
-) -> Result<(), AllocError> {
+fn put_checked(alloc: Global, out: &mut String, call: Call, unit: &Unit) -> Result<(), AllocError> {
     match check(alloc, unit) {
         Ok(typed) => put_typed(out, call, &typed),
         Err(fault) => put_fault(out, &fault),

@@ -22,7 +22,7 @@ fn tokens_of(alloc: Global, nest: &Nest) -> Result<Tokens, Fail> {
 }
 
 /// Each production and each level of operators is open in its last operand between two brackets: no bracket takes more stack.
-static OPERATORS: [&str; 5] = [
+const OPERATORS: [&str; 5] = [
     "",
     "a , a = a ? b : a || a && a | a ^ a & a == a < a << a + a * - f ( b , ",
     "a",
