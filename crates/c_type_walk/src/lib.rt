@@ -9,8 +9,6 @@
 mod around;
 mod found;
 mod names;
-#[cfg(test)]
-mod tests;
 
 pub use around::Around;
 pub use found::Found;
