@@ -13,8 +13,6 @@ mod laws;
 mod sizes;
 mod structures;
 mod tags;
-#[cfg(test)]
-mod tests;
 
 pub use constants::{constant, constant_after};
 pub use laws::{

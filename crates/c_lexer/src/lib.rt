@@ -17,8 +17,6 @@ mod number;
 mod place;
 mod punctuator;
 mod reading;
-#[cfg(test)]
-mod tests;
 
 pub use fault::LexFault;
 pub use laws::longest_is_longest;

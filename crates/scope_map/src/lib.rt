@@ -8,7 +8,5 @@
 
 mod places;
 mod table;
-#[cfg(test)]
-mod tests;
 
 pub use table::ScopeMap;
