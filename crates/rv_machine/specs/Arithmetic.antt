@@ -1,7 +1,7 @@
 -- The words that instructions compute.
 -- RISC-V unprivileged manual, chapter "RV32I Base Integer Instruction Set", section "Integer Computational
 -- Instructions", and chapter "M" Extension for Integer Multiplication and Division.
-use Rattle.std.specs.Prelude.{ℕ, ◌+◌, ◌-◌, ◌*◌, ◌/◌, ◌%◌, ◌^◌, ◌==◌, Bool, true, false, nat_lt, if◌then◌else◌, ℤ, pos, ◌*ℤ◌, int_lt, int_rem, bit_and, bit_or, bit_xor}
+use Rattle.std.specs.Prelude.{ℕ, ◌+◌, ◌-◌, ◌*◌, ◌/◌, ◌%◌, ◌^◌, ◌==◌, Bool, nat_lt, if◌then◌else◌, ℤ, pos, ◌*ℤ◌, int_lt, int_rem}
 use Rattle.std.specs.Int.{w32, w64, cast_unsigned, cast_signed, int_shr, int_wrapping_div}
 
 -- a word read as signed, in two's complement

@@ -1,5 +1,5 @@
 -- A machine in its environment: one step, and a run of many, over any source and any sink.
-use Rattle.std.specs.Prelude.{◌≡◌, ℕ, zero, suc, ◌+◌, ◌-◌, ◌%◌, ◌^◌, ◌<◌, ◌≤◌, List, [], ◌∷◌, Option, Some, None}
+use Rattle.std.specs.Prelude.{◌≡◌, ℕ, zero, suc, ◌-◌, ◌%◌, ◌^◌, ◌<◌, ◌≤◌, List, [], ◌∷◌, Option, Some, None}
 use Rattle.ccai_io.specs.Outside.{Rose, Takes, Appends, AppendsPrefix}
 use Rattle.rv_machine.specs.declared.answer.Stepped.{Stepped}
 use Rattle.rv_machine.specs.declared.answer.Stepped.TheVariants.{Going, Exit, Deep, Trap, ReadFault, WriteFault}

@@ -1,9 +1,9 @@
 -- Instructions on words, computed: words of the GNU assembler, the words of x5 and x6 before, and the word of x7 after them,
 -- or whether the branch is taken, as qemu-riscv32 gives it.
-use Rattle.std.specs.Prelude.{◌≡◌, ℕ, Bool, true, false, if◌then◌else◌, List, [], ◌∷◌, ◌++◌, map, replicate, Option, Some, None, refl}
+use Rattle.std.specs.Prelude.{◌≡◌, ℕ, Bool, true, false, if◌then◌else◌, List, [], ◌∷◌, map, replicate, Option, Some, None, refl}
 use Rattle.rv_table.specs.Instruction.{decode_of, row_of}
 use Rattle.rv_machine.specs.State.{State, register_of}
-use Rattle.rv_machine.specs.Effect.{Action, Goes, Gets, Puts, Exits, Deepens, Traps}
+use Rattle.rv_machine.specs.Effect.{Action, Goes}
 use Rattle.rv_machine.specs.Step.{performs}
 
 -- an instruction that writes x7, and a branch to .+8

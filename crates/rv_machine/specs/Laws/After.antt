@@ -1,6 +1,6 @@
 -- Laws of a machine after a number of steps on input that is told. They are proofs: a contract cites none of them, but
 -- the carrier `after_laws` states those that other crates may rest on.
-use Rattle.std.proofs.Common.{◌≡◌, ◌≢◌, ℕ, zero, suc, ◌+◌, ◌-◌, ◌<◌, ◌≤◌, refl, sym, ◌∙◌, ap, arith, List, [], ◌∷◌, ◌++◌, add-zero, append_assoc, append-nil}
+use Rattle.std.proofs.Common.{◌≡◌, ◌≢◌, ℕ, zero, suc, ◌+◌, ◌-◌, ◌≤◌, refl, sym, ◌∙◌, ap, arith, List, [], ◌∷◌, ◌++◌, add-zero, append_assoc, append-nil}
 use Rattle.std.proofs.Math.Nat.{add-suc}
 use Rattle.rv_machine.specs.declared.answer.Stepped.{Stepped}
 use Rattle.rv_machine.specs.declared.answer.Stepped.TheVariants.{Going, Exit, Deep, Trap, ReadFault, WriteFault}

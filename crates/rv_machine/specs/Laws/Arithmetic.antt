@@ -1,14 +1,14 @@
 -- Laws of the words that instructions compute: those of the operations on words, one set of equations for both tables. They
 -- are proofs: a contract cites none of them but the carrier `arithmetic_laws`.
-use Rattle.std.proofs.Common.{◌≡◌, refl, sym, ap, ◌∙◌, subst, ℕ, zero, suc, ◌+◌, ◌-◌, ◌*◌, ◌≤◌, ◌<◌, Bool, true, false, ℤ, pos, negsuc, neg_ℤ, arith}
+use Rattle.std.proofs.Common.{◌≡◌, refl, ap, ◌∙◌, ℕ, zero, suc, ◌-◌, ◌*◌, ◌≤◌, ◌<◌, Bool, true, false, ℤ, pos, negsuc, neg_ℤ, arith}
 use Rattle.std.proofs.lemmas.Bool.Decides.{nat_tests}
-use Rattle.std.proofs.lemmas.Nat.{mul-lt, div_below}
+use Rattle.std.proofs.lemmas.Nat.{mul-lt}
 use Rattle.std.proofs.lemmas.Int.{of_z-to_z, unsigned_abs-mul}
 use Rattle.std.proofs.lemmas.Option.{none-some, same_Some}
 use Rattle.std.proofs.Math.Nat.{div-le_self}
 use lib.Signed.{mag, mag_rem, mag_shr}
-use Rattle.std.specs.Prelude.{Option, Some, None, ◌*ℤ◌, ◌/◌, ◌%◌, ◌^◌, ◌==◌, if◌then◌else◌, unsigned_abs, int_div, int_rem}
-use Rattle.std.specs.Int.{w32, w64, cast_unsigned, cast_signed, int_shr, int_wrapping_div}
+use Rattle.std.specs.Prelude.{Some, ◌*ℤ◌, ◌/◌, ◌%◌, ◌^◌, ◌==◌, if◌then◌else◌, unsigned_abs, int_div, int_rem}
+use Rattle.std.specs.Int.{w32, cast_unsigned, int_shr}
 use Rattle.word_ops.specs.declared.operation.Op.{Op}
 use Rattle.word_ops.specs.declared.operation.Op.TheVariants as op
 use Rattle.word_ops.specs.Word.{word_of_integer, number_of_truth}

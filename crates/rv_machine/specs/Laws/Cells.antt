@@ -1,6 +1,6 @@
 -- Laws of cells as numbers in a machine's memory: what a store of a value puts there are its cells' bytes, and a load of
 -- cells that stand there gives their value's word. They are proofs: a contract cites none of them but `cell_laws`.
-use Rattle.std.proofs.Common.{◌≡◌, refl, sym, ap, ◌∙◌, ℕ, zero, suc, ◌+◌, ◌*◌, ◌≤◌, ◌<◌, List, [], ◌∷◌, length, subst, arith}
+use Rattle.std.proofs.Common.{◌≡◌, sym, ap, ◌∙◌, ℕ, suc, ◌+◌, ◌*◌, ◌≤◌, ◌<◌, List, [], ◌∷◌, length, subst, arith}
 use Rattle.std.proofs.lemmas.Nat.{mod-pow-add}
 use Rattle.std.proofs.Math.Nat.{mod-mod}
 use Rattle.std.specs.Prelude.{Some, ◌/◌, ◌%◌, ◌^◌}

@@ -1,8 +1,8 @@
 -- Laws of steps by the words of the text: a step is the effect of the instruction whose word stands at pc. They are proofs: a
 -- contract cites none of them but the carrier `step_laws`.
-use Rattle.std.proofs.Common.{◌≡◌, refl, sym, ap, ◌∙◌, ℕ, zero, suc, ◌+◌, ◌-◌, ◌*◌, ◌<◌, Bool, true, false, List, [], ◌∷◌, ◌++◌, length, arith}
+use Rattle.std.proofs.Common.{◌≡◌, refl, sym, ap, ◌∙◌, ℕ, ◌+◌, ◌-◌, ◌*◌, ◌<◌, Bool, true, false, List, [], ◌∷◌, ◌++◌, length, arith}
 use Rattle.std.proofs.lemmas.Bool.Decides.{nat_tests}
-use Rattle.std.proofs.lemmas.Option.{none-some, same_Some, get_or_from_slice_get}
+use Rattle.std.proofs.lemmas.Option.{none-some, get_or_from_slice_get}
 use Rattle.std.specs.Prelude.{Option, Some, None, ◌/◌, ◌%◌, ◌^◌, ◌==◌, ◌&&◌, nat_le, slice_get, if◌then◌else◌}
 use Rattle.std.specs.Option.{option_and_then}
 use Rattle.std.specs.Int.{w32, cast_unsigned}
@@ -10,7 +10,7 @@ use Rattle.rv_table.specs.declared.instruction.Instr.{Instr}
 use Rattle.rv_table.specs.Instruction.{Valid, encode_of, decode_of}
 use Rattle.rv_table.specs.Laws.Decoding.{decode_of-encode_of, decode_of-valid}
 use Rattle.rv_machine.specs.State.{State, register_of}
-use Rattle.rv_machine.specs.Effect.{Action, Traps, effect}
+use Rattle.rv_machine.specs.Effect.{Traps, effect}
 use Rattle.rv_machine.specs.Step.{fetched, instruction_at, performs, step_of}
 use Rattle.rv_machine.specs.Sound.{AreWords}
 use Rattle.rv_machine.specs.Laws.Bytes.{below-at}

@@ -1,6 +1,6 @@
 -- Laws of words read anywhere in a machine: in its memory they are the words of the bytes there, and in its text the words
 -- of the text. They are proofs: a contract cites none of them but the carrier `step_laws`.
-use Rattle.std.proofs.Common.{◌≡◌, refl, sym, ap, ◌∙◌, ℕ, ◌+◌, ◌-◌, ◌*◌, ◌≤◌, ◌<◌, Bool, true, false, List, length, arith}
+use Rattle.std.proofs.Common.{◌≡◌, refl, ap, ◌∙◌, ℕ, ◌+◌, ◌-◌, ◌*◌, ◌≤◌, ◌<◌, true, false, List, length, arith}
 use Rattle.std.proofs.lemmas.Bool.Decides.{nat_tests}
 use Rattle.std.specs.Prelude.{Option, Some, None, ◌/◌, ◌%◌, ◌^◌, ◌&&◌, nat_le, slice_index, if◌then◌else◌}
 use Rattle.rv_machine.specs.State.{Loaded}

@@ -1,7 +1,6 @@
 -- Laws of registers: what was written is read, but for x0, and each other register is as it was. They are proofs: a contract
 -- cites none of them but the carrier `register_laws`.
-use Rattle.std.proofs.Common.{◌≡◌, ◌≢◌, refl, ap, ◌∙◌, ℕ, ◌<◌, ◌≤◌, Bool, true, false, List, length, set, arith}
-use Rattle.std.proofs.lemmas.Bool.{eqb-true}
+use Rattle.std.proofs.Common.{◌≡◌, ◌≢◌, refl, ap, ◌∙◌, ℕ, ◌<◌, Bool, true, false, List, length, set, arith}
 use Rattle.std.proofs.lemmas.Bool.Decides.{nat_tests}
 use Rattle.std.proofs.lemmas.List.{length-set, get_or-set_same, get_or-set_other}
 use Rattle.std.specs.Prelude.{◌^◌, ◌==◌, if◌then◌else◌, slice_index}

@@ -1,18 +1,15 @@
 -- Laws of states that a machine can be in: where an image is loaded they begin, and every step keeps them, over any source
 -- and any sink. They are proofs: a contract cites none of them but the carrier `sound_laws`.
-use Rattle.std.proofs.Common.{◌≡◌, refl, sym, ap, ◌∙◌, subst, ℕ, zero, suc, ◌+◌, ◌-◌, ◌*◌, ◌≤◌, ◌<◌, Bool, true, false, ℤ, pos, negsuc, List, [], ◌∷◌, ◌++◌, length, set, replicate, arith}
+use Rattle.std.proofs.Common.{◌≡◌, refl, sym, ap, ◌∙◌, subst, ℕ, zero, suc, ◌-◌, ◌*◌, ◌≤◌, ◌<◌, Bool, true, false, ℤ, pos, negsuc, List, [], ◌∷◌, length, set, arith}
 use Rattle.std.proofs.lemmas.Bool.{eqb-true}
 use Rattle.std.proofs.lemmas.Nat.{or_lt, xor_lt, and_le_l}
-use Rattle.std.proofs.lemmas.List.{length-set, length-replicate}
+use Rattle.std.proofs.lemmas.List.{length-replicate}
 use Rattle.std.proofs.lemmas.List.Elements.{All-set, All-replicate, All-append}
-use Rattle.std.specs.Prelude.{Option, Some, None, All, ◌/◌, ◌%◌, ◌^◌, ◌==◌, if◌then◌else◌, slice_index}
+use Rattle.std.specs.Prelude.{Option, Some, None, ◌/◌, ◌%◌, ◌^◌, ◌==◌, if◌then◌else◌}
 use Rattle.std.specs.Int.{w32, cast_unsigned}
-use Rattle.std.specs.Option.{option_and_then}
-use Rattle.ccai_io.specs.Outside.{Rose}
 use Rattle.word_ops.specs.declared.operation.Op.{Op}
 use Rattle.word_ops.specs.declared.operation.Op.TheVariants as op
 use Rattle.word_ops.specs.declared.operation.Width.TheVariants.{U8, S8, U16, S16, Word}
-use Rattle.word_ops.specs.Access.{narrowed_to}
 use Rattle.word_ops.specs.Operation.{machine_word}
 use Rattle.word_ops.specs.Laws.Operations.{machine_word-small}
 use Rattle.word_ops.specs.Laws.Widths.{narrowed_to-small}
@@ -24,19 +21,19 @@ use Rattle.rv_table.specs.declared.table.Format.{Format}
 use Rattle.rv_table.specs.declared.table.Format.TheVariants.{R, I, S, B, U, J, Shift, Whole}
 use Rattle.rv_table.specs.declared.instruction.Instr.{Instr}
 use Rattle.rv_table.specs.Table.{format}
-use Rattle.rv_table.specs.Fields.{Fits, Within, low_bits}
+use Rattle.rv_table.specs.Fields.{Fits, Within}
 use Rattle.rv_table.specs.Instruction.{Valid}
 use Rattle.rv_table.specs.Laws.Immediates.{cast_unsigned-within}
 use Rattle.rv_machine.specs.declared.answer.Stepped.{Stepped}
 use Rattle.rv_machine.specs.declared.answer.Stepped.TheVariants.{Going, Exit, Deep, Trap, ReadFault, WriteFault}
 use Rattle.rv_machine.specs.declared.answer.End.{End}
 use Rattle.rv_machine.specs.declared.answer.End.TheVariants as ended
-use Rattle.rv_machine.specs.State.{State, register_in, register_of, with_register, following}
+use Rattle.rv_machine.specs.State.{State, register_of, with_register, following}
 use Rattle.rv_machine.specs.Arithmetic as words
 use Rattle.rv_machine.specs.Bytes.{byte_in, half_in, word_in, signed_byte_in, signed_half_in, with_byte, with_half, with_word, number_in, with_number}
 use Rattle.rv_machine.specs.Effect.{Action, Goes, Gets, Puts, Exits, Deepens, Traps, moves, writes, jumps, branches, accesses, place_of, loads, stores, calls, effect}
 use Rattle.rv_machine.specs.Step.{instruction_at, performs, step_of}
-use Rattle.rv_machine.specs.Start.{start, up_to_eight}
+use Rattle.rv_machine.specs.Start.{start}
 use Rattle.rv_machine.specs.Run.{World, answered, byte_or_end, Acts, Steps, Went, Ended, Run}
 use Rattle.rv_machine.specs.After.{Moment, gets, acts, goes_on, next, after}
 use Rattle.rv_machine.specs.Sound.{AreWords, AreBytes, IsSound, LiesAs}
