@@ -1,6 +1,7 @@
--- The derivations of a composite type, one after another.
-use Rattle.std.proofs.Common.{◌≡◌, ◌∙◌, refl, ap, sym, ℕ, zero, suc, ◌+◌, ◌<◌, Bool, true, false, List, [], ◌∷◌, length, take, get_or, arith, add-one}
-use Rattle.std.specs.Prelude.{Option, Some, None, slice_get, slice_set}
+-- The derivations of a composite type,
+-- one after another.
+use Rattle.std.proofs.Common.{◌≡◌, ◌∙◌, refl, ap, sym, ℕ, zero, suc, ◌+◌, ◌<◌, true, false, List, [], ◌∷◌, length, take, get_or, arith, add-one}
+use Rattle.std.specs.Prelude.{Some, None, slice_get, slice_set}
 use Rattle.c_tree.specs.declared.typed.types.Derived.{Derived}
 use Rattle.c_tree.specs.declared.typed.types.Derived.TheVariants as derived
 use Rattle.c_typing.specs.Types.{composite_derived, composite_list}

@@ -1,5 +1,6 @@
--- Where the qualifier of a type stands, by its outermost derivation.
-use Rattle.std.proofs.Common.{◌≡◌, ◌∙◌, refl, ap, sym, ℕ, ◌<◌, Bool, List, [], ◌∷◌, ◌++◌, length}
+-- Where the qualifier of a type stands,
+-- by its outermost derivation.
+use Rattle.std.proofs.Common.{◌≡◌, ◌∙◌, ap, sym, ℕ, Bool, List, [], ◌∷◌, ◌++◌, length}
 use Rattle.std.specs.Prelude.{reverse, slice_set}
 use Rattle.std.proofs.lemmas.List.{reverse-append, set-append_left}
 use Rattle.std.proofs.Math.Seq.{set-append_seam}

@@ -1,9 +1,10 @@
--- Comparisons of rows are those of their lists.
-use Rattle.std.proofs.Common.{◌≡◌, ◌≢◌, ◌∙◌, refl, ap, sym, ℕ, suc, Bool, true, false, ◌&&◌, ◌==◌, List, [], ◌∷◌, length}
+-- Comparisons of the rows of types and derivations
+-- are those of their lists.
+use Rattle.std.proofs.Common.{◌≡◌, ◌≢◌, ◌∙◌, refl, ap, sym, suc, Bool, true, false, ◌&&◌, ◌==◌, List, [], ◌∷◌, length}
 use Rattle.c_tree.specs.declared.typed.types.Derived.{Derived, Row_of-CType, end_of-CType, more_of-CType, Row_of-Derived, end_of-Derived, more_of-Derived, items-the_row-CType, items-the_row-Derived, items_hidden-the_row-CType-1, items_shown-the_row-Derived-0}
 use Rattle.c_tree.specs.declared.typed.types.Derived.TheVariants as derived
 use Rattle.c_tree.specs.declared.typed.types.Derived.TheBlock.{hidden-the_row-CType-1, shown-the_row-Derived-0}
-use Rattle.c_tree.specs.declared.typed.types.CType.{CType, out-CType}
+use Rattle.c_tree.specs.declared.typed.types.CType.{CType}
 use Rattle.c_typing.specs.Types.{Counts, base_number, same_truth, same_derived, same_derivations, same_types, all_same, agree}
 use Rattle.c_type_rules.specs.Compatibility.{all_agree}
 

@@ -1,4 +1,5 @@
--- Types that are compatible but for their own qualifiers, by their shapes.
+-- Types that are compatible but for their own qualifiers,
+-- by their shapes.
 use Rattle.std.proofs.Common.{◌≡◌, ◌∙◌, refl, ap, sym, ℕ, Bool, true, false, ◌&&◌, ◌==◌, List, [], ◌∷◌, ◌++◌, Bor}
 use Rattle.std.specs.Prelude.{Option, reverse}
 use Rattle.std.proofs.lemmas.List.{reverse-append, reverse-reverse}
@@ -6,7 +7,7 @@ use Rattle.c_tree.specs.declared.typed.types.Base.{Base}
 use Rattle.c_tree.specs.declared.typed.types.Derived.{Derived}
 use Rattle.c_tree.specs.declared.typed.types.Derived.TheVariants as derived
 use Rattle.c_tree.specs.declared.typed.types.CType.{CType, out-CType}
-use Rattle.c_typing.specs.Types.{made, Shape, Basic, PointerTo, ArrayOf, FunctionOf, shape, shape_from, qualified_by, unqualified, Counts, may_be_equal, base_number, same_truth, same_derived, all_same, agree, compatible, alike}
+use Rattle.c_typing.specs.Types.{made, Shape, Basic, PointerTo, ArrayOf, FunctionOf, shape, shape_from, qualified_by, Counts, may_be_equal, base_number, same_truth, same_derived, all_same, agree, compatible, alike}
 use Rattle.c_type_rules.specs.Compatibility.{all_agree, same_base}
 use Rattle.c_type_rules.specs.declared.shapes.LentType.{LentType}
 use Rattle.c_type_rules.specs.declared.shapes.TypeShape.{TypeShape}

@@ -1,4 +1,5 @@
--- Trees whose value is dropped.
+-- Trees whose value is dropped:
+-- the drop of a comma reaches its last operand.
 use Rattle.std.proofs.Common.{◌≡◌, refl, List}
 use Rattle.c_tree.specs.declared.typed.types.CType.{CType}
 use Rattle.c_tree.specs.declared.typed.expression.TExpr.{TExpr}

@@ -1,8 +1,9 @@
--- Pointers to void.
-use Rattle.std.proofs.Common.{◌≡◌, ◌≢◌, ◌∙◌, refl, ap, Bool, true, false, ◌&&◌, ◌==◌, [], ◌∷◌, length}
+-- A plain pointer to `void`
+-- has one derivation.
+use Rattle.std.proofs.Common.{◌≡◌, ◌≢◌, ◌∙◌, ap, Bool, false, ◌&&◌, ◌==◌, [], ◌∷◌, length}
 use Rattle.c_tree.specs.declared.typed.types.Derived.TheVariants as derived
 use Rattle.c_tree.specs.declared.typed.types.CType.{CType, out-CType}
-use Rattle.c_typing.specs.Types.{base_number, same_truth, all_same, may_be_equal}
+use Rattle.c_typing.specs.Types.{base_number, same_truth, may_be_equal}
 use Rattle.c_type_rules.specs.Constants.{is_plain_void_pointer}
 use Rattle.c_type_rules.proofs.Rows.{and_false, all_same-lengths}
 

@@ -1,4 +1,5 @@
--- The parts of what a null pointer constant is.
+-- The parts of what a null pointer constant is:
+-- a plain pointer to `void`, and the tree of a null pointer.
 use Rattle.std.specs.Prelude.{Bool, false, ◌&&◌}
 use Rattle.c_tree.specs.declared.typed.types.CType.{CType}
 use Rattle.c_typing.specs.Types.{compatible, pointer_to, void}

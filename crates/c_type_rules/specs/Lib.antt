@@ -1,3 +1,5 @@
+-- The words that the contracts of rules on types and operands cite,
+-- beside those of c_typing.
 pub mod Shapes
 pub mod Qualifiers
 pub mod Compatibility

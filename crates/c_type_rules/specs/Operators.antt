@@ -1,4 +1,5 @@
--- What the rows of the table plan for operands that they take.
+-- What the rows of the table of operators plan
+-- for integers.
 use Rattle.c_tree.specs.declared.typed.types.Base.{Base}
 use Rattle.c_tree.specs.declared.typed.types.CType.{CType}
 use Rattle.c_tree.specs.declared.typed.operator.Relation.{Relation}

@@ -1,4 +1,5 @@
--- What the rows of the table plan where one operand is a pointer.
+-- What the rows of the table of operators plan
+-- where one operand is a pointer.
 use Rattle.std.specs.Prelude.{ℕ, Option, Some, None}
 use Rattle.std.specs.Option.{option_map}
 use Rattle.c_tree.specs.declared.typed.types.CType.{CType}

@@ -1,4 +1,5 @@
--- Where the qualifier of a type stands, and the derivations of the type with another one there.
+-- Where the qualifier of a type stands,
+-- and the derivations of the type with another one there.
 use Rattle.std.specs.Prelude.{ℕ, ◌<◌, Bool, List, slice_set, reverse}
 use Rattle.c_tree.specs.declared.typed.types.Derived.{Derived}
 use Rattle.c_tree.specs.declared.typed.types.Derived.TheVariants as derived

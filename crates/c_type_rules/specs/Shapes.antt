@@ -1,4 +1,5 @@
--- What the types of this crate stand for.
+-- What the types of this crate stand for:
+-- a lent type, and the shape of a type.
 use Rattle.std.specs.Prelude.{Option, Some, None}
 use Rattle.c_tree.specs.declared.typed.types.CType.{CType}
 use Rattle.c_typing.specs.Types.{made, Shape, Basic, PointerTo, ArrayOf, FunctionOf, shape}

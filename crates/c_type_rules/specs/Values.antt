@@ -1,4 +1,5 @@
--- What is read of an operand that is no array.
+-- What is read of an operand
+-- that is no array.
 use Rattle.std.specs.Prelude.{if◌then◌else◌}
 use Rattle.c_typing.specs.Conversions.{scalar_of}
 use Rattle.c_typing.specs.declared.operand.Operand.{Operand}

@@ -1,4 +1,5 @@
-//! Whether a value may be given to an object (C11 6.5.16.1p1).
+//! Whether a value may be given to an object, by the type of the object and by what the
+//! value is (C11 6.5.16.1p1).
 
 ghost use Rattle.std.specs.Prelude.{◌≡◌};
 ghost use Rattle.c_typing.specs.Types as types;

@@ -1,4 +1,5 @@
-//! The last two operands of `? :` (C11 6.5.15).
+//! The type of the last two operands of `? :`, where they go together
+//! (C11 6.5.15p3, p5, p6).
 
 ghost use Rattle.std.specs.Prelude.{◌≡◌, IfOk};
 ghost use Rattle.c_typing.specs.Operands as operands;

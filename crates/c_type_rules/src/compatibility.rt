@@ -1,4 +1,5 @@
-//! Compatible types (C11 6.2.7, 6.7.3p10, 6.7.6).
+//! Which types are compatible or the same, and the composite type of two that are
+//! (C11 6.2.7, 6.7.3p10, 6.7.6).
 
 ghost use Rattle.std.specs.Prelude.{◌≡◌, ◌<◌, true, length, slice_get, IfOk};
 ghost use Rattle.c_typing.specs.Types as spec;

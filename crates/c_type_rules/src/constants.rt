@@ -1,4 +1,5 @@
-//! Integer constant expressions and null pointer constants.
+//! Which operands are integer constant expressions, and which are null pointer constants
+//! (C11 6.6p6, 6.3.2.3p3).
 
 ghost use Rattle.std.specs.Prelude.{◌≡◌};
 ghost use Rattle.c_typing.specs.Operands as spec;

@@ -1,4 +1,5 @@
-//! Conversions of integer types, and how a value of a type is kept (C11 6.3.1, 6.2.6).
+//! Conversions of integer types, and how a value of a type is kept in an object
+//! (C11 6.3.1, 6.2.6).
 
 ghost use Rattle.std.specs.Prelude.{◌≡◌};
 ghost use Rattle.c_typing.specs.Conversions as spec;

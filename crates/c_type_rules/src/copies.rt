@@ -1,4 +1,5 @@
-//! Copies of types.
+//! Copies of types and of their derivations, since each operand and each tree
+//! owns its type.
 
 ghost use Rattle.std.specs.Prelude.{◌≡◌, IfOk};
 ghost use Rattle.c_type_rules.specs.Shapes.{lent};

@@ -1,4 +1,5 @@
-//! Kinds of types (C11 6.2.5).
+//! Of which kind a type is (C11 6.2.5): an integer, a pointer, scalar, a structure and
+//! so on.
 
 ghost use Rattle.std.specs.Prelude.{◌≡◌};
 ghost use Rattle.c_typing.specs.Types as spec;

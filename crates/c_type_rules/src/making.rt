@@ -1,4 +1,5 @@
-//! How types are made, and what they are made from.
+//! How types are made from others, and the types that they are made from: what a pointer
+//! leads to, and the element of an array.
 
 ghost use Rattle.std.specs.Prelude.{◌≡◌, IfOk};
 ghost use Rattle.c_typing.specs.Types as spec;

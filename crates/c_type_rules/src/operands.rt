@@ -1,4 +1,5 @@
-//! Operands: how they are made and changed, and which are lvalues.
+//! Operands: how they are made and changed, which are lvalues, and the tree that an
+//! operand comes to.
 
 ghost use Rattle.std.specs.Prelude.{◌≡◌, IfOk};
 ghost use Rattle.c_typing.specs.Operands as spec;
@@ -37,8 +38,11 @@ pub fn value(alloc: Global, ctype: CType, base: TExpr) -> Operand
 pub fn primary(alloc: Global, ctype: CType, primary: Primary) -> Result<Operand, Memory>
     ensures { IfOk result (λ r. r ≡ spec.value ctype (x.Primary ctype primary)) }
 {
-    let base = TExpr::Primary(copied(alloc, &ctype)?, primary);
-    Ok(value(alloc, ctype, base))
+    let Ok(again) = copied(alloc, &ctype) else {
+        drop(ctype);
+        return Err(Memory);
+    };
+    Ok(value(alloc, ctype, TExpr::Primary(again, primary)))
 }
 
 /// A number of this type.
@@ -72,11 +76,16 @@ pub fn then_step(form: Form, ctype: CType, step: Step, operand: Operand) -> Resu
     ensures { IfOk result (λ r. r ≡ spec.then_step form ctype step operand) }
 {
     let Operand {
+        ctype: before,
         base,
         mut steps,
         ..
     } = operand;
-    steps.push(step)?;
+    drop(before);
+    if steps.push(step).is_err() {
+        drop((ctype, base, steps));
+        return Err(Memory);
+    }
     Ok(Operand {
         ctype,
         form,
@@ -161,10 +170,14 @@ pub fn tree_of(alloc: Global, operand: Operand) -> Result<TExpr, Memory>
         ..
     } = operand;
     if steps.is_empty() {
-        Ok(retyped(ctype, base))
-    } else {
-        Ok(TExpr::Applied(ctype, Boxed::new(alloc, base)?, steps))
+        drop(steps);
+        return Ok(retyped(ctype, base));
     }
+    let Ok(base) = Boxed::new(alloc, base) else {
+        drop((ctype, steps));
+        return Err(Memory);
+    };
+    Ok(TExpr::Applied(ctype, base, steps))
 }
 
 /// What has no operands, with the type of the whole.

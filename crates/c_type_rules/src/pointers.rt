@@ -1,4 +1,5 @@
-//! Operators with a pointer among their operands (C11 6.5.6, 6.5.8, 6.5.9).
+//! Rows of the table of operators with a pointer among the operands
+//! (C11 6.5.6, 6.5.8, 6.5.9).
 
 ghost use Rattle.std.specs.Prelude.{◌≡◌, ◌∷◌, [], IfOk};
 ghost use Rattle.c_typing.specs.Types as types;

@@ -1,4 +1,5 @@
-//! Qualifiers of types (C11 6.7.3).
+//! Qualifiers of types (C11 6.7.3): whether a type is `const`, and the type with or
+//! without the qualifier.
 
 ghost use Rattle.std.specs.Prelude.{◌≡◌, ◌<◌, Bool, length, reverse};
 ghost use Rattle.c_typing.specs.Types as spec;

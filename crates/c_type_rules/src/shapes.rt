@@ -1,4 +1,5 @@
-//! What a type is at its outside, and what it is derived from (C11 6.2.5p20).
+//! What a type is at its outside, and what it is derived from, lent from the type itself
+//! (C11 6.2.5p20).
 
 ghost use Rattle.std.specs.Prelude.{◌≡◌};
 ghost use Rattle.std.specs.Option.{option_map};

@@ -1,4 +1,5 @@
-//! What is done with the value of an operand (C11 6.3).
+//! What is done with the value of an operand (C11 6.3): it is read, dropped, or converted
+//! to another type.
 
 ghost use Rattle.std.specs.Prelude.{◌≡◌, [], ◌∷◌, IfOk};
 ghost use Rattle.c_tree.specs.declared.typed.expression.TExpr.TheVariants as x;
@@ -45,7 +46,11 @@ fn read_lvalue(alloc: Global, operand: Operand) -> Result<Operand, Memory>
     if !is_lvalue(&operand) {
         return Ok(operand);
     }
-    let ctype = unqualified(copied(alloc, &operand.ctype)?);
+    let Ok(ctype) = copied(alloc, &operand.ctype) else {
+        drop(operand);
+        return Err(Memory);
+    };
+    let ctype = unqualified(ctype);
     match scalar_of(&operand.ctype) {
         Some(scalar) => read(alloc, ctype, scalar, operand),
         None => Ok(as_form(Form::Value, ctype, operand)),
@@ -57,9 +62,15 @@ fn read(alloc: Global, ctype: CType, scalar: Scalar, operand: Operand) -> Result
     ensures { IfOk result (λ r. r ≡ spec.read_by operand.form ctype scalar operand) }
 {
     match operand.form {
-        Form::Value => Ok(operand),
+        Form::Value => {
+            drop(ctype);
+            Ok(operand)
+        }
         Form::Place => then_unary(Form::Value, ctype, Unary::Load(scalar), operand),
-        Form::Named { place, .. } => primary(alloc, ctype, Primary::Variable(scalar, place)),
+        Form::Named { place, .. } => {
+            drop(operand);
+            primary(alloc, ctype, Primary::Variable(scalar, place))
+        }
     }
 }
 
@@ -105,7 +116,14 @@ fn dropped(alloc: Global, tree: TExpr) -> Result<TExpr, Memory>
 fn comma_dropped(alloc: Global, last: Boxed<TExpr>, before: Items<TExpr>) -> Result<TExpr, Memory>
     ensures { IfOk result (λ r. r ≡ x.Comma types.void before (spec.dropped last)) }
 {
-    let last = Boxed::new(alloc, dropped(alloc, last.into_inner())?)?;
+    let Ok(last) = dropped(alloc, last.into_inner()) else {
+        drop(before);
+        return Err(Memory);
+    };
+    let Ok(last) = Boxed::new(alloc, last) else {
+        drop(before);
+        return Err(Memory);
+    };
     Ok(TExpr::Comma(plain(alloc, Base::Void), before, last))
 }
 
@@ -113,9 +131,26 @@ fn comma_dropped(alloc: Global, last: Boxed<TExpr>, before: Items<TExpr>) -> Res
 fn then_drop(alloc: Global, tree: TExpr) -> Result<TExpr, Memory>
     ensures { IfOk result (λ r. r ≡ x.Applied types.void tree (step.Unary unary.Drop ∷ [])) }
 {
+    let Ok(steps) = one_step(alloc, Step::Unary(Unary::Drop)) else {
+        drop(tree);
+        return Err(Memory);
+    };
+    let Ok(tree) = Boxed::new(alloc, tree) else {
+        drop(steps);
+        return Err(Memory);
+    };
+    Ok(TExpr::Applied(plain(alloc, Base::Void), tree, steps))
+}
+
+fn one_step(alloc: Global, step: Step) -> Result<Items<Step>, Memory>
+    ensures { IfOk result (λ steps. steps ≡ step ∷ []) }
+{
     let mut steps = Items::new(alloc);
-    steps.push(Step::Unary(Unary::Drop))?;
-    Ok(TExpr::Applied(plain(alloc, Base::Void), Boxed::new(alloc, tree)?, steps))
+    if steps.push(step).is_err() {
+        drop(steps);
+        return Err(Memory);
+    }
+    Ok(steps)
 }
 
 /// A value of scalar type as one of another: itself where it has that type already (C11 6.3).
@@ -129,6 +164,7 @@ pub fn converted(alloc: Global, ctype: CType, operand: Operand) -> Result<Operan
     if compatible(&ctype, &operand.ctype) {
         Ok(as_form(Form::Value, ctype, operand))
     } else if is_pointer(&ctype) && is_null_constant(&operand) {
+        drop(operand);
         null(alloc, ctype)
     } else {
         let conversion = conversion_to(&ctype);

@@ -1,4 +1,6 @@
-use Rattle.std.proofs.Common.{◌∙◌, refl, sym}
+-- The parameters of two functions, and lists of different lengths,
+-- compared as the definition does.
+use Rattle.std.proofs.Common.{sym}
 use Rattle.c_type_rules.specs.Compatibility.{counted}
 use Rattle.c_type_rules.proofs.Rows.{parameters-agree, all_same-lengths, all_agree-lengths}
 use Rattle.c_type_rules.proofs.compatibility.+same.Goals as goal

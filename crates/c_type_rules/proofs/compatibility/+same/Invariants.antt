@@ -1,3 +1,5 @@
+-- The loops over two lists at once:
+-- what was passed is the same in both, and what is left tells.
 use Rattle.std.proofs.Common.{◌≡◌, length}
 use Rattle.c_typing.specs.Types as spec
 use Rattle.c_type_rules.specs.Compatibility.{counted, all_agree}

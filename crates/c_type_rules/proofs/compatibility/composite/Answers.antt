@@ -1,3 +1,5 @@
+-- One derivation more of a composite type,
+-- taken from the other type where it is open.
 use Rattle.std.proofs.Common.{◌∙◌, sym, ap}
 use Rattle.std.specs.Prelude.{slice_set}
 use Rattle.c_type_rules.proofs.Composites.{none, next-open, next-closed}

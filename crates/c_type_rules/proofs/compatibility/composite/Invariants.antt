@@ -1,3 +1,5 @@
+-- The loop over the derivations of the other type:
+-- those that were passed are those of the composite type.
 use Rattle.std.proofs.Common.{◌≡◌, take}
 use Rattle.c_typing.specs.Types.{composite_list}
 use Rattle.c_type_rules.proofs.compatibility.composite.Given as goal

@@ -1,4 +1,6 @@
-use Rattle.std.proofs.Common.{ap, arith, ℕ, List, length}
+-- A type of several derivations, or of none,
+-- is no plain pointer to `void`.
+use Rattle.std.proofs.Common.{ap, arith, List, length}
 use Rattle.c_tree.specs.declared.typed.types.Derived.{Derived}
 use Rattle.c_type_rules.proofs.VoidPointers.{not_one}
 use Rattle.c_type_rules.proofs.constants.is_void_pointer.Goals as goal

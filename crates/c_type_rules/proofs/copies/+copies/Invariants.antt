@@ -1,3 +1,5 @@
+-- The loops over derivations and over parameters:
+-- those that were passed are copied.
 use Rattle.std.proofs.Common.{◌≡◌, take}
 use Rattle.c_type_rules.proofs.copies.+copies.Given as goal
 

@@ -1,3 +1,5 @@
+-- Where the qualifier of a pointer stands,
+-- and that of an array, which is its element's.
 use Rattle.c_type_rules.proofs.Qualified.{qualified-pointer, qualified-array}
 use Rattle.c_type_rules.proofs.qualifiers.+qualified_at.Goals as goal
 

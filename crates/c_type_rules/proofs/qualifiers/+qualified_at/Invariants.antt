@@ -1,3 +1,5 @@
+-- Why the search for the place of a qualifier ends:
+-- it goes from arrays to their elements.
 use Rattle.std.proofs.Common.{length}
 use Rattle.c_type_rules.proofs.qualifiers.+qualified_at.Given as goal
 

@@ -1,3 +1,5 @@
+-- The drop of a comma
+-- is the comma of the drop of its last operand.
 use Rattle.c_type_rules.proofs.Trees.{dropped-Comma}
 use Rattle.c_type_rules.proofs.values.+drops.Goals as goal
 

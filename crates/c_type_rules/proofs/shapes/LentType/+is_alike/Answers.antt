@@ -1,3 +1,5 @@
+-- Two types but for their qualifiers, by the shapes of both:
+-- one answer for each pair of shapes.
 use Rattle.std.proofs.Common.{◌∙◌, ap, sym, Bool, ◌&&◌}
 use Rattle.c_typing.specs.Types.{Basic, PointerTo, ArrayOf, FunctionOf, compatible, alike}
 use Rattle.c_type_rules.specs.Shapes.{lent, meant}
