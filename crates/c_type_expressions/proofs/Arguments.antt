@@ -1,4 +1,5 @@
--- Arguments that are given one after another are given as the whole row is.
+-- Arguments that are given one after another
+-- are given as the whole row is.
 use Rattle.std.proofs.Common.{◌≡◌, ◌∙◌, refl, ap, sym, List, [], ◌∷◌, ◌++◌, append_assoc, Option, Some, None}
 use Rattle.std.proofs.lemmas.List.{append-nil}
 use Rattle.c_tree.specs.declared.token.Pos.{Pos}
@@ -27,13 +28,6 @@ pub record SoFar (whole : Said (List TExpr)) (before : List Fault) (now : Found)
 abbrev in_front : Option TExpr → Option (List TExpr) → Option (List TExpr)
 in_front (Some e) (Some es) = Some (e ∷ es)
 in_front _ _ = None
-
-nothing_before : (o : Option (List TExpr)) → o ≡ behind (Some []) o
-nothing_before (Some es) = refl
-nothing_before None = refl
-
-pub so_far-first : (whole : Said (List TExpr)) (found : Found) → SoFar whole found.faults found (Some []) whole
-so_far-first whole found = record { is = nothing_before whole.given; faults = refl; state = refl }
 
 put_in_front-given : (one : Option TExpr) (rest : Option (List TExpr)) (c : Around) (s : State) →
     (both_asked one rest (λ e es. give (e ∷ es)) c s).given ≡ in_front one rest

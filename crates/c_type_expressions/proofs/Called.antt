@@ -1,4 +1,5 @@
--- What is called, by what its arguments are and by the number of its definition.
+-- What is called, by what its arguments are
+-- and by the number of its definition.
 use Rattle.std.proofs.Common.{◌≡◌, ◌∙◌, refl, ap, sym, ℕ, Bool, true, false, if◌then◌else◌, List, [], ◌++◌, Option, Some, None}
 use Rattle.std.proofs.lemmas.List.{append-nil}
 use Rattle.c_tree.specs.declared.expression.Identifier.{Identifier}
@@ -58,20 +59,3 @@ answered-made id args ts t c old new es o b h e =
     (ap (λ (as_many : Bool). called_with id t as_many (Some es) c s) b
     ∙ made_said id t es (number_in 0 c.functions id.text) c s
     ∙ ap (λ (r : Option Operand). only s r) (sym e))
-
--- a fault in an argument
-pub answered-fault : (id : Identifier) (args : List spec.Argument) (ts : List CType) (t : CType) (c : Around) (old new : Found) →
-    Gave (spec.arguments_row args ts c old.state) old new None → Gave (answered id args ts t c old.state) old new None
-answered-fault id args ts t c old new h =
-    after_arguments id args ts t c old new None None h (no_arguments (spec.same_length args ts))
-  where
-    no_arguments : (as_many : Bool) → called_with id t as_many None c (spec.arguments_row args ts c old.state).state ≡ only (spec.arguments_row args ts c old.state).state None
-    no_arguments true = refl
-    no_arguments false = refl
-
--- more or fewer arguments than parameters
-pub answered-other : (id : Identifier) (args : List spec.Argument) (ts : List CType) (t : CType) (c : Around) (old new : Found) (es : Option (List TExpr)) →
-    spec.same_length args ts ≡ false → Gave (spec.arguments_row args ts c old.state) old new es → Gave (answered id args ts t c old.state) old new None
-answered-other id args ts t c old new es b h =
-    after_arguments id args ts t c old new es None h
-    (ap (λ (as_many : Bool). called_with id t as_many es c (spec.arguments_row args ts c old.state).state) b)

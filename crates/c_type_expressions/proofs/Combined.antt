@@ -1,14 +1,12 @@
--- The operators that assignments contain look at the types of their operands alone.
+-- The operators that assignments contain look at the types of their operands alone,
+-- so that operands of the same types give the same row.
 use Rattle.std.proofs.Common.{◌≡◌, ◌∙◌, refl, ap, sym, subst, Option, Some, None}
 use Rattle.c_tree.specs.declared.token.Punct.{Punct}
 use Rattle.c_tree.specs.declared.token.Punct.TheVariants as p
 use Rattle.c_tree.specs.declared.typed.types.CType.{CType}
 use Rattle.c_layout.specs.Tags.{Structs}
 use Rattle.c_typing.specs.declared.operand.Operand.{Operand}
-use Rattle.c_typing.specs.Types.{int}
-use Rattle.c_typing.specs.Operands.{valued, number}
 use Rattle.c_typing.specs.Operators.{binary, contained}
-use Rattle.c_typing.specs.Expressions.{contained_row}
 use Rattle.c_type_expressions.specs.Lvalues.{stand_in_of}
 use Rattle.c_type_expressions.specs.Assignments.{IsContained}
 
@@ -43,10 +41,3 @@ combined-alike structs q h l r m n e f =
     ∙ ap (λ (t : CType). binary structs q (stand_in_of t) (stand_in_of r.ctype)) e
     ∙ ap (λ (t : CType). binary structs q (stand_in_of m.ctype) (stand_in_of t)) f
     ∙ sym (looks q h structs m n)
-
--- the value of a left side, and the number 1
-pub stepped-alike : (structs : Structs) (p q : Punct) (o : Operand) → contained p ≡ Some q →
-    binary structs q (stand_in_of (valued o).ctype) (number int 1) ≡ contained_row structs (contained p) (valued o) (number int 1)
-stepped-alike structs p q o e =
-    combined-alike structs q (p, e) (stand_in_of (valued o).ctype) (number int 1) (valued o) (number int 1) refl refl
-    ∙ ap (λ (r : Option Punct). contained_row structs r (valued o) (number int 1)) (sym e)

@@ -1,4 +1,5 @@
--- A call whose result is returned as it is, where what it gives is also told otherwise.
+-- A call whose result is returned as it is,
+-- where what it gives is also told otherwise.
 use Rattle.std.proofs.Common.{◌≡◌, ◌∙◌, Result}
 use Rattle.std.specs.Result.{IfOk}
 use Rattle.std.proofs.lemmas.Result.{IfOk-weaker}

@@ -1,3 +1,5 @@
+-- The lemmas on rows of expressions that the proofs of the functions cite,
+-- each about definitions alone.
 pub mod Ends
 pub mod Values
 pub mod Combined

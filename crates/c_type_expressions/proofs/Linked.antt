@@ -1,5 +1,6 @@
--- A call of a function with linkage: it is told beside the call that the unit has no definition of it.
-use Rattle.std.proofs.Common.{◌≡◌, ◌∙◌, ap, subst, ℕ, List, ◌++◌, append_assoc, Option, Result, Ok, Err}
+-- A call of a function with linkage:
+-- it is told beside the call that the unit has no definition of it.
+use Rattle.std.proofs.Common.{◌≡◌, ◌∙◌, ap, subst, List, ◌++◌, append_assoc, Option, Result, Ok, Err}
 use Rattle.word_ops.specs.declared.memory.Memory.{Memory}
 use Rattle.c_tree.specs.declared.token.Pos.{Pos}
 use Rattle.c_tree.specs.declared.expression.Identifier.{Identifier}
@@ -30,11 +31,10 @@ tells fs w c old mid new a e h g = record {
 
 -- a function is called
 pub called_function : (id : Identifier) (at : Pos) (args : List spec.Argument) (ts : List CType) (t : CType) (s : Shape) (c : Around) (old mid new : Found) →
-    (d : Option ℕ) (r : Result (Option Operand) Memory) → FunctionOf ts t ≡ s → d ≡ number_in 0 (fixed c).functions id.text →
-    mid.faults ≡ old.faults ++ spec.no_body id d → mid.state ≡ old.state →
+    (r : Result (Option Operand) Memory) → FunctionOf ts t ≡ s →
+    mid.faults ≡ old.faults ++ spec.no_body id (number_in 0 (fixed c).functions id.text) → mid.state ≡ old.state →
     Walks (spec.function_call id at args ts t) c mid r new → Walks (spec.linked_call id at args s) c old r new
-called_function id at args ts t s c old mid new d (Ok a) e f g h w =
+called_function id at args ts t s c old mid new (Ok a) e g h w =
     subst (λ (u : Shape). Gave (spec.linked_call id at args u (fixed c) old.state) old new a) e
-    (tells (spec.no_body id (number_in 0 (fixed c).functions id.text)) (spec.function_call id at args ts t) (fixed c) old mid new a
-    (g ∙ ap (λ (n : Option ℕ). old.faults ++ spec.no_body id n) f) h w)
-called_function id at args ts t s c old mid new d (Err x) e f g h w = tt
+    (tells (spec.no_body id (number_in 0 (fixed c).functions id.text)) (spec.function_call id at args ts t) (fixed c) old mid new a g h w)
+called_function id at args ts t s c old mid new (Err x) e g h w = tt

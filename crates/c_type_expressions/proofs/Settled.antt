@@ -1,4 +1,5 @@
--- A chain of integers behind a pointer gives way as a whole, or does not go together with it.
+-- A chain of integers behind a pointer gives way as a whole,
+-- or does not go together with it.
 use Rattle.std.proofs.Common.{◌≡◌, ◌∙◌, refl, ap, sym, subst, Bool, true, false, ◌&&◌, if◌then◌else◌, List, [], ◌∷◌, reverse, Option, Some, None}
 use Rattle.std.proofs.lemmas.List.{reverse-append}
 use Rattle.std.proofs.Math.Bool.{and-false}

@@ -1,4 +1,5 @@
--- One more left side in front of what has been assigned.
+-- One more left side in front of what has been assigned,
+-- with what is done with its object.
 use Rattle.std.proofs.Common.{◌≡◌, ◌∙◌, refl, ap, sym, List, [], ◌∷◌, ◌++◌, Option, Some, None}
 use Rattle.std.proofs.lemmas.List.{reverse-append}
 use Rattle.c_tree.specs.declared.typed.types.CType.{CType}

@@ -1,5 +1,6 @@
--- The values of lvalues, and operands that are no null pointer constants.
-use Rattle.std.proofs.Common.{◌≡◌, ◌∙◌, refl, ap, sym, ℕ, Bool, true, false, ◌&&◌, ◌||◌, if◌then◌else◌, List, [], ◌∷◌, ◌++◌, map, Option, Some, None}
+-- The values of lvalues, and operands that are no null pointer constants:
+-- why an operand may stand for another.
+use Rattle.std.proofs.Common.{◌≡◌, ◌∙◌, refl, ap, sym, ℕ, Bool, true, false, ◌&&◌, ◌||◌, if◌then◌else◌, List, [], ◌∷◌, ◌++◌, map, Option, Some}
 use Rattle.std.proofs.Math.Bool.{and-false}
 use Rattle.std.specs.Option.{option_and_then}
 use Rattle.word_ops.specs.Choice.{when}
@@ -14,7 +15,7 @@ use Rattle.c_tree.specs.declared.typed.expression.Step.TheVariants as step
 use Rattle.c_tree.specs.declared.typed.expression.Target.{Target}
 use Rattle.c_layout.specs.Constants.{has_constant_form, step_has_form, number_of, all_hold, stepped, constant_after}
 use Rattle.c_layout.specs.ConstantNodes.{has_constant_form-Primary, has_constant_form-Assign, step_has_form-Unary, number_of-Primary}
-use Rattle.c_typing.specs.Types.{Shape, Basic, PointerTo, ArrayOf, FunctionOf, shape, is_integer, is_pointer, is_bool_base, is_array_shape, plain, unqualified, void, pointer_to, compatible}
+use Rattle.c_typing.specs.Types.{Shape, Basic, PointerTo, ArrayOf, FunctionOf, shape, is_integer, is_pointer, is_bool_base, plain, unqualified, void, pointer_to, compatible}
 use Rattle.c_typing.specs.Conversions.{scalar_of, scalar_of_shape}
 use Rattle.c_typing.specs.declared.operand.Form.{Form}
 use Rattle.c_typing.specs.declared.operand.Form.TheVariants.{Value, Place, Named}
@@ -23,31 +24,9 @@ use Rattle.c_typing.specs.Operands.{value, is_lvalue, read_by, read_if, decayed,
 use Rattle.c_typing.specs.Expressions as spec
 use Rattle.c_type_expressions.specs.Lvalues.{stand_in_of}
 
--- ---- the type of the value of an lvalue
-
 -- whether an operand of this form is an lvalue
 abbrev lvalue_form : Form → Bool
 lvalue_form f = elim f as (λ f. Bool) [ Value ↦ false | Place ↦ true | Named p n r ↦ true ]
-
-read_by-type : (f : Form) (t : CType) (k : Scalar) (o : Operand) → lvalue_form f ≡ true → (read_by f t k o).ctype ≡ t
-read_by-type Value t k o h = cc
-read_by-type Place t k o h = refl
-read_by-type (Named p n r) t k o h = refl
-
-read_if-type : (k : Option Scalar) (o : Operand) → is_lvalue o ≡ true → (read_if k o).ctype ≡ unqualified o.ctype
-read_if-type (Some k) o h = read_by-type o.form (unqualified o.ctype) k o h
-read_if-type None o h = refl
-
-read-type : (b : Bool) (k : Option Scalar) (o : Operand) → is_lvalue o ≡ true → b ≡ true →
-    (if b then read_if k o else o).ctype ≡ unqualified o.ctype
-read-type true k o h e = read_if-type k o h
-read-type false k o h e = cc
-
-pub decayed-type : (s : Shape) (o : Operand) → is_lvalue o ≡ true → is_array_shape s ≡ false → (decayed s o).ctype ≡ unqualified o.ctype
-decayed-type (Basic b) o h e = read-type (is_lvalue o) (scalar_of o.ctype) o h h
-decayed-type (PointerTo c t) o h e = read-type (is_lvalue o) (scalar_of o.ctype) o h h
-decayed-type (ArrayOf n t) o h e = cc
-decayed-type (FunctionOf ps t) o h e = read-type (is_lvalue o) (scalar_of o.ctype) o h h
 
 -- ---- what is no null pointer constant
 

@@ -1,4 +1,5 @@
--- What a chain of assignments stands for as far as it has been read.
+-- What a chain of assignments stands for as far as it has been read,
+-- and the parts of what is added to it.
 use Rattle.std.specs.Prelude.{◌≡◌, ◌&&◌, if◌then◌else◌, List, [], ◌∷◌, Option, Some, None, reverse}
 use Rattle.c_tree.specs.declared.token.Punct.{Punct}
 use Rattle.c_tree.specs.declared.typed.types.CType.{CType}

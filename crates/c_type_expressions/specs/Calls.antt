@@ -1,4 +1,5 @@
--- The parts of what a call is.
+-- The row of a call in parts: what its arguments give one after another,
+-- and what is made of them.
 use Rattle.std.specs.Prelude.{ℕ, if◌then◌else◌, List, [], ◌∷◌, ◌++◌, Option, Some, None}
 use Rattle.c_tree.specs.declared.expression.Identifier.{Identifier}
 use Rattle.c_tree.specs.declared.typed.types.CType.{CType}

@@ -1,4 +1,5 @@
--- What a chain of `? :` stands for as far as it has been read.
+-- What a chain of `? :` stands for as far as it has been read,
+-- and how it grows.
 use Rattle.std.specs.Prelude.{Bool, false, ◌&&◌, if◌then◌else◌, [], ◌∷◌, ◌++◌, reverse, Option, Some}
 use Rattle.c_tree.specs.declared.typed.types.CType.{CType}
 use Rattle.c_tree.specs.declared.typed.expression.Arm.{Arm, roll-Arm}

@@ -1,4 +1,5 @@
--- What is known of left sides, and of operands that stand for others.
+-- What is known of the left sides of rows,
+-- and of operands that stand for others.
 use Rattle.std.specs.Prelude.{◌≡◌, true, Option, Some, None}
 use Rattle.c_tree.specs.declared.typed.types.CType.{CType}
 use Rattle.c_typing.specs.declared.operand.Operand.{Operand}

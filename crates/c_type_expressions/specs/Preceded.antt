@@ -1,4 +1,5 @@
--- A chain of assignments with one more left side in front.
+-- A chain of assignments with one more left side in front,
+-- by the type of the value that this side gives.
 use Rattle.std.specs.Prelude.{◌∷◌, Option}
 use Rattle.c_tree.specs.declared.typed.types.CType.{CType}
 use Rattle.c_tree.specs.declared.typed.expression.TExpr.TheVariants as x

@@ -1,4 +1,5 @@
--- What the types of prefix operators stand for.
+-- What the types of prefix operators stand for
+-- in the row of the definition.
 use Rattle.c_typing.specs.declared.operand.Operand.{Operand}
 use Rattle.c_typing.specs.Expressions.{negated, complemented}
 use Rattle.c_typing.specs.Parts as parts

@@ -1,4 +1,5 @@
--- What a function ensures that types a construct and keeps what is given in another form than the definition has.
+-- What the function of a row ensures that keeps what is given in another form than
+-- the definition has.
 use Rattle.std.specs.Prelude.{Option, Result, Ok, Err}
 use Rattle.std.specs.Option.{option_map}
 use Rattle.word_ops.specs.declared.memory.Memory.{Memory}

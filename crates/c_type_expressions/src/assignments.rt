@@ -1,7 +1,9 @@
-//! Assignments (C11 6.5.16).
+//! The rows of assignments (C11 6.5.16), which are read from the right: `Assigned` keeps
+//! the left sides that were passed, and the value at the right end.
 
 ghost use Rattle.std.specs.Prelude.{◌≡◌, ◌∷◌, ◌++◌, [], true, Some, None, IfOk, reverse};
 ghost use Rattle.std.specs.Option.{option_map};
+ghost use Rattle.c_tree.specs.declared.typed.expression.TExpr.TheVariants as x;
 ghost use Rattle.c_typing.specs.declared.operator.Row.TheVariants as row;
 ghost use Rattle.c_typing.specs.Types as types;
 ghost use Rattle.c_typing.specs.Scopes as scopes;
@@ -12,18 +14,19 @@ ghost use Rattle.c_typing.specs.OfTrees as trees;
 ghost use Rattle.c_type_expressions.specs.declared.assignments.Assigned.TheVariants as assigned;
 ghost use Rattle.c_type_expressions.specs.Told.{WalksAs};
 ghost use Rattle.c_type_expressions.specs.Lvalues.{IsLvalue};
-ghost use Rattle.c_type_expressions.specs.Assignments.{assigned_of, IsContained, target_by, last_of};
+ghost use Rattle.c_type_expressions.specs.Assignments.{assigned_of, targets_of, IsContained, target_by, last_of};
 ghost use Rattle.c_type_expressions.specs.Preceded.{preceded_by};
 
 use crate::given::is_struct_given;
 use crate::refusals::refused;
 use crate::stand_in::{combined_types, takes, takes_back, takes_value, value_type};
+use crate::trees::{converted_tree, tree_at, with_item};
 use crate::writing::target_row;
 use c_layout::Tags;
 use c_tree::typed::{Arithmetic, CType, Change, Scalar, TExpr, Target};
 use c_tree::{FaultKind, Mark, Pos, Punct};
 use c_type_rules::{
-    contained, conversion_to, converted, copied, is_null_constant, is_pointer, scalar_of, tree_of,
+    contained, conversion_to, copied, is_null_constant, is_pointer, scalar_of, tree_of,
     unqualified, value, valued,
 };
 use c_type_walk::{Around, Found};
@@ -75,20 +78,33 @@ pub fn assigned_value(alloc: Global, assigned: Assigned) -> Result<Operand, Memo
 {
     match assigned {
         Assigned::End(operand) => Ok(operand),
-        Assigned::Targets(
-            Assignment {
-                ctype,
-                first,
-                others,
-                last,
-            },
-        ) => {
-            let targets = in_order(alloc, first, others)?;
-            let last = Boxed::new(alloc, last)?;
-            let base = TExpr::Assign(copied(alloc, &ctype)?, targets, last);
-            Ok(value(alloc, ctype, base))
-        }
+        Assigned::Targets(assignment) => assignment_value(alloc, assignment),
     }
+}
+
+/// The value of assignments.
+fn assignment_value(alloc: Global, assignment: Assignment) -> Result<Operand, Memory>
+    ensures { IfOk result (λ o. o ≡ operands.value assignment.ctype (x.Assign assignment.ctype (targets_of assignment) assignment.last)) }
+{
+    let Assignment {
+        ctype,
+        first,
+        others,
+        last,
+    } = assignment;
+    let Ok(targets) = in_order(alloc, first, others) else {
+        drop((ctype, last));
+        return Err(Memory);
+    };
+    let Ok(last) = Boxed::new(alloc, last) else {
+        drop((ctype, targets));
+        return Err(Memory);
+    };
+    let Ok(again) = copied(alloc, &ctype) else {
+        drop((ctype, targets, last));
+        return Err(Memory);
+    };
+    Ok(value(alloc, ctype, TExpr::Assign(again, targets, last)))
 }
 
 /// Left sides in their order.
@@ -99,11 +115,18 @@ fn in_order(
 ) -> Result<Items<Target>, Memory>
     ensures { IfOk result (λ list. list ≡ first ∷ reverse others) }
 {
-    let mut list = Items::new(alloc);
-    list.push(first)?;
+    let Ok(mut list) = with_item(Items::new(alloc), first) else {
+        drop(others);
+        return Err(Memory);
+    };
     while let Some(target) = others.pop() {
-        list.push(target)?;
+        let Ok(longer) = with_item(list, target) else {
+            drop(others);
+            return Err(Memory);
+        };
+        list = longer;
     }
+    drop(others);
     Ok(list)
 }
 
@@ -126,7 +149,10 @@ pub fn assign_row(
         drop(right);
         return Ok(None);
     };
-    let left = target_row(found, around, mark.place, left)?;
+    let Ok(left) = target_row(found, around, mark.place, left) else {
+        drop(right);
+        return Err(Memory);
+    };
     both_row(alloc, found, around, mark, left, right)
 }
 
@@ -173,7 +199,11 @@ fn simple_row(
     let Some(scalar) = scalar_of(&left.ctype) else {
         return refused(found, around, FaultKind::Mismatch, place, (left, right));
     };
-    if !right.is_assignable_to(alloc, &left.ctype)? {
+    let Ok(is_taken) = right.is_assignable_to(alloc, &left.ctype) else {
+        drop((left, right));
+        return Err(Memory);
+    };
+    if !is_taken {
         return refused(found, around, FaultKind::Mismatch, place, (left, right));
     }
     Ok(Some(assigned_to(alloc, left, scalar, None, None, right)?))
@@ -239,8 +269,27 @@ fn planned_row(
             (left, plan, right),
         );
     }
-    let operator = Some(plan.operator);
-    Ok(Some(assigned_to(alloc, left, scalar, operator, Some(plan.right), right)?))
+    Ok(Some(assigned_by(alloc, left, scalar, plan, right)?))
+}
+
+/// A chain with one more left side in front, to which an operator leads by this plan.
+fn assigned_by(
+    alloc: Global,
+    left: Operand,
+    scalar: Scalar,
+    plan: Plan,
+    right: Assigned,
+) -> Result<Assigned, Memory>
+    ensures { IfOk result (λ a. assigned_of a ≡ spec.assigned_to left scalar (Some plan.operator) (Some plan.right) (assigned_of right)) }
+{
+    let Plan {
+        left: left_type,
+        right: right_type,
+        operator,
+        result: given,
+    } = plan;
+    drop((left_type, given));
+    assigned_to(alloc, left, scalar, Some(operator), Some(right_type), right)
 }
 
 impl Assigned {
@@ -277,7 +326,10 @@ impl Assigned {
         ensures { IfOk result (λ row. row ≡ operators.binary tags.now operator (operands.valued left.now) (assigned_of self.now).whole) }
     {
         let left = value_type(alloc, left)?;
-        let right = copied(alloc, self.ctype())?;
+        let Ok(right) = copied(alloc, self.ctype()) else {
+            drop(left);
+            return Err(Memory);
+        };
         combined_types(alloc, tags, operator, left, right)
     }
 }
@@ -310,8 +362,14 @@ fn left_side(
 ) -> Result<(CType, Target), Memory>
     ensures { IfOk result (λ side. side ≡ (types.unqualified left.ctype, spec.target_of_form left.form scalar (types.unqualified left.ctype) operator left)) }
 {
-    let ctype = assigned_type(alloc, &left)?;
-    let first = changed(alloc, &ctype, scalar, operator, left)?;
+    let Ok(ctype) = assigned_type(alloc, &left) else {
+        drop(left);
+        return Err(Memory);
+    };
+    let Ok(first) = changed(alloc, &ctype, scalar, operator, left) else {
+        drop(ctype);
+        return Err(Memory);
+    };
     Ok((ctype, first))
 }
 
@@ -367,7 +425,10 @@ fn one_target(
 ) -> Result<Assigned, Memory>
     ensures { IfOk result (λ a. a ≡ assigned.Targets (record { ctype = ctype; first = first; others = []; last = last_of operand_type ctype operand })) }
 {
-    let last = last_as(alloc, operand_type, &ctype, operand)?;
+    let Ok(last) = last_as(alloc, operand_type, &ctype, operand) else {
+        drop((ctype, first));
+        return Err(Memory);
+    };
     Ok(Assigned::Targets(Assignment {
         ctype,
         first,
@@ -381,12 +442,16 @@ fn one_more_target(ctype: CType, first: Target, assignment: Assignment) -> Resul
     ensures { IfOk result (λ a. a ≡ assigned.Targets (record { ctype = ctype; first = first; others = assignment.others ++ assignment.first ∷ []; last = assignment.last })) }
 {
     let Assignment {
+        ctype: before,
         first: second,
-        mut others,
+        others,
         last,
-        ..
     } = assignment;
-    others.push(second)?;
+    drop(before);
+    let Ok(others) = with_item(others, second) else {
+        drop((ctype, first, last));
+        return Err(Memory);
+    };
     Ok(Assigned::Targets(Assignment {
         ctype,
         first,
@@ -400,7 +465,10 @@ fn target_of(alloc: Global, change: Change, left: Operand) -> Result<Target, Mem
     ensures { IfOk result (λ t. t ≡ target_by change left) }
 {
     match left.form {
-        Form::Named { place, .. } => Ok(Target::Variable(place, change)),
+        Form::Named { place, .. } => {
+            drop(left);
+            Ok(Target::Variable(place, change))
+        }
         _ => Ok(Target::Place(tree_of(alloc, left)?, change)),
     }
 }
@@ -416,13 +484,18 @@ fn last_as(
     ensures { IfOk result (λ tree. tree ≡ last_of operand_type ctype.now operand) }
 {
     match operand_type {
-        Some(operand_type) => tree_of(alloc, converted(alloc, operand_type, operand)?),
-        None => {
-            if is_pointer(ctype) && is_null_constant(&operand) {
-                tree_of(alloc, converted(alloc, copied(alloc, ctype)?, operand)?)
-            } else {
-                tree_of(alloc, operand)
-            }
-        }
+        Some(operand_type) => converted_tree(alloc, operand_type, operand),
+        None => last_given(alloc, ctype, operand),
+    }
+}
+
+/// The same where the assignment has no operator.
+fn last_given(alloc: Global, ctype: &CType, operand: Operand) -> Result<TExpr, Memory>
+    ensures { IfOk result (λ tree. tree ≡ last_of None ctype.now operand) }
+{
+    if is_pointer(ctype) && is_null_constant(&operand) {
+        tree_at(alloc, ctype, operand)
+    } else {
+        tree_of(alloc, operand)
     }
 }

@@ -1,4 +1,5 @@
-//! Calls (C11 6.5.2.2), and those of the library (C11 7.21.7.6, 7.21.7.8, 7.22.4.4).
+//! The row of a call, of a function of the unit (C11 6.5.2.2) or of the library
+//! (C11 7.21.7.6, 7.21.7.8, 7.22.4.4).
 
 ghost use Rattle.std.specs.Prelude.{◌≡◌, ◌++◌, false, List, Some, IfOk, OnOk};
 ghost use Rattle.c_typing.specs.Types as types;
@@ -8,6 +9,8 @@ ghost use Rattle.c_type_walk.specs.Walks.{Walks};
 ghost use Rattle.c_type_expressions.specs.Calls.{answered, both_given, made};
 
 use crate::given::given_row;
+use crate::refusals::refused;
+use crate::trees::with_item;
 use c_tree::typed::{Base, CType, TExpr};
 use c_tree::{FaultKind, Identifier, Pos};
 use c_type_rules::{TypeShape, copied, is_struct, is_void, plain, shape, unqualified, value};
@@ -35,13 +38,21 @@ pub fn call_row(
     ensures { Walks (spec.call_row name.now place arguments.items) around.now found.old result found.new }
 {
     match found.meaning(&name.text) {
-        None => found.tell(around, FaultKind::Undeclared, name.place),
+        None => refused(found, around, FaultKind::Undeclared, name.place, arguments),
         Some(Meaning::Linked(ctype)) => {
-            let ctype = copied(alloc, ctype)?;
-            linked_call(alloc, found, around, name, place, arguments, &ctype)
+            let Ok(ctype) = copied(alloc, ctype) else {
+                drop(arguments);
+                return Err(Memory);
+            };
+            let call = linked_call(alloc, found, around, name, place, arguments, &ctype);
+            drop(ctype);
+            call
         }
-        Some(Meaning::Unknown) => Ok(None),
-        Some(_) => found.tell(around, FaultKind::BadCall, place),
+        Some(Meaning::Unknown) => {
+            drop(arguments);
+            Ok(None)
+        }
+        Some(_) => refused(found, around, FaultKind::BadCall, place, arguments),
     }
 }
 
@@ -58,11 +69,17 @@ fn linked_call(
     ensures { Walks (spec.linked_call name.now place arguments.items (types.shape ctype.now)) around.now found.old result found.new }
 {
     let TypeShape::FunctionOf(parameters, given) = shape(ctype) else {
+        drop(arguments);
         return object_called(found, around, name, place);
     };
-    let definition = number_in(around.functions.as_slice(), &name.text)?;
-    tell_no_body(found, name, definition)?;
-    let given = given.copied(alloc)?;
+    let Ok(definition) = defined_function(found, around, name) else {
+        drop(arguments);
+        return Err(Memory);
+    };
+    let Ok(given) = given.copied(alloc) else {
+        drop(arguments);
+        return Err(Memory);
+    };
     function_call(
         alloc, found, around, name, place, arguments, parameters, given, definition,
     )
@@ -84,8 +101,17 @@ fn function_call(
     ensures { Walks (spec.function_call name.now place arguments.items parameters.now given) around.now found.old result found.new }
 {
     let as_many = are_as_many(arguments.as_slice(), parameters);
-    found.tell_if(!as_many, FaultKind::BadCall, place)?;
-    found.unready_if(is_struct(&given), FaultKind::StructValue, place)?;
+    if found.tell_if(!as_many, FaultKind::BadCall, place).is_err() {
+        drop((arguments, given));
+        return Err(Memory);
+    }
+    if found
+        .unready_if(is_struct(&given), FaultKind::StructValue, place)
+        .is_err()
+    {
+        drop((arguments, given));
+        return Err(Memory);
+    }
     answered_call(
         alloc, found, around, name, arguments, parameters, given, definition,
     )
@@ -106,11 +132,16 @@ fn answered_call(
     ensures { Walks (answered name.now arguments.items parameters.now given) around.now found.old result found.new }
 {
     let as_many = are_as_many(arguments.as_slice(), parameters);
-    let values = arguments_row(alloc, found, around, arguments, parameters)?;
+    let Ok(values) = arguments_row(alloc, found, around, arguments, parameters) else {
+        drop(given);
+        return Err(Memory);
+    };
     if !as_many {
+        drop((values, given));
         return Ok(None);
     }
     let Some(values) = values else {
+        drop(given);
         return Ok(None);
     };
     let call = call_made(alloc, name, given, values, definition)?;
@@ -138,6 +169,21 @@ fn object_called(
     found.tell(around, FaultKind::BadCall, place)
 }
 
+/// The number of the function of the unit that has this name, of which it is told where there is none.
+fn defined_function(
+    found: &mut Found,
+    around: &Around<'_>,
+    name: &Identifier,
+) -> Result<Option<u32>, Memory>
+    ensures definition { IfOk result (λ d. d ≡ scopes.number_in 0 around.now.functions.now name.now.text) }
+    ensures faults { OnOk result (found.new.faults ≡ found.old.faults ++ spec.no_body name.now (scopes.number_in 0 around.now.functions.now name.now.text)) }
+    ensures state { found.new.state ≡ found.old.state }
+{
+    let definition = number_in(around.functions.as_slice(), &name.text)?;
+    tell_no_body(found, name, definition)?;
+    Ok(definition)
+}
+
 /// Tells of a name with linkage of which the unit has no definition (C11 6.9p5); those of the library have theirs elsewhere.
 fn tell_no_body(found: &mut Found, name: &Identifier, definition: Option<u32>) -> Result<(), Memory>
     ensures faults { OnOk result (found.new.faults ≡ found.old.faults ++ spec.no_body name.now definition) }
@@ -161,9 +207,13 @@ fn arguments_row(
     let mut left = parameters;
     for (place, argument) in arguments {
         let Some((ctype, behind)) = left.split_first() else {
+            drop(argument);
             return Ok(given);
         };
-        let value = argument_row(alloc, found, around, place, ctype, argument)?;
+        let Ok(value) = argument_row(alloc, found, around, place, ctype, argument) else {
+            drop(given);
+            return Err(Memory);
+        };
         given = with_one_more(given, value)?;
         left = behind;
     }
@@ -194,11 +244,15 @@ fn with_one_more(
 ) -> Result<Option<Items<TExpr>>, Memory>
     ensures { IfOk result (λ r. r ≡ both_given list value) }
 {
-    let (Some(mut list), Some(value)) = (list, value) else {
+    let Some(list) = list else {
+        drop(value);
         return Ok(None);
     };
-    list.push(value)?;
-    Ok(Some(list))
+    let Some(value) = value else {
+        drop(list);
+        return Ok(None);
+    };
+    Ok(Some(with_item(list, value)?))
 }
 
 /// The value of a call with these arguments, as many as there are parameters.
@@ -215,6 +269,7 @@ fn call_made(
         Some(function) => Ok(Some(call_of(alloc, given, function, arguments)?)),
         None => {
             if is_library(&name.text) {
+                drop(given);
                 Ok(Some(library_call(alloc, &name.text, arguments)?))
             } else {
                 Ok(Some(call_of(alloc, given, 0, arguments)?))
@@ -233,13 +288,17 @@ fn call_of(
     ensures { IfOk result (λ o. o ≡ spec.call_of given function arguments) }
 {
     if is_void(&given) {
+        drop(given);
         let void = plain(alloc, Base::Void);
         let base = TExpr::DroppedCall(void, function, arguments);
         return Ok(value(alloc, plain(alloc, Base::Void), base));
     }
     let ctype = unqualified(given);
-    let base = TExpr::Call(copied(alloc, &ctype)?, function, arguments);
-    Ok(value(alloc, ctype, base))
+    let Ok(again) = copied(alloc, &ctype) else {
+        drop((ctype, arguments));
+        return Err(Memory);
+    };
+    Ok(value(alloc, ctype, TExpr::Call(again, function, arguments)))
 }
 
 /// A call of the library: `getchar` has no argument, and `putchar` and `exit` have one.
@@ -247,10 +306,13 @@ fn library_call(alloc: Global, name: &Text, mut arguments: Items<TExpr>) -> Resu
     ensures { IfOk result (λ o. Some o ≡ spec.library_call name.now arguments) }
 {
     if arguments.is_empty() {
+        drop(arguments);
         let base = TExpr::GetChar(plain(alloc, Base::Int));
         return Ok(value(alloc, plain(alloc, Base::Int), base));
     }
-    let argument = Boxed::new(alloc, arguments.remove(0))?;
+    let argument = arguments.remove(0);
+    drop(arguments);
+    let argument = Boxed::new(alloc, argument)?;
     if name.as_slice() == PUTCHAR {
         let base = TExpr::PutChar(plain(alloc, Base::Int), argument);
         return Ok(value(alloc, plain(alloc, Base::Int), base));

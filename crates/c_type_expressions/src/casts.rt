@@ -1,4 +1,5 @@
-//! Casts (C11 6.5.4).
+//! The row of a cast (C11 6.5.4): which values may be cast to which types,
+//! and the value that a cast gives.
 
 ghost use Rattle.std.specs.Prelude.{◌≡◌};
 ghost use Rattle.c_typing.specs.Expressions as spec;
@@ -21,7 +22,7 @@ use word_ops::Memory;
 /// # Errors
 ///
 /// `Memory` where memory is wanting.
-pub fn cast_row(
+pub(crate) fn cast_row(
     alloc: Global,
     found: &mut Found,
     around: &Around<'_>,
@@ -34,7 +35,10 @@ pub fn cast_row(
     if is_void(&ctype) {
         return Ok(Some(dropping(alloc, operand)?));
     }
-    let value = valued(alloc, operand)?;
+    let Ok(value) = valued(alloc, operand) else {
+        drop(ctype);
+        return Err(Memory);
+    };
     if !casts(&ctype, &value) {
         return refused(found, around, FaultKind::Mismatch, place, (ctype, value));
     }

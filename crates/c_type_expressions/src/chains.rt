@@ -1,8 +1,10 @@
-//! Chains of `? :` (C11 6.5.15).
+//! The rows of `? :` (C11 6.5.15), which are read from the right: `Chain` keeps the
+//! conditions that were passed, and the last operand.
 
-ghost use Rattle.std.specs.Prelude.{◌≡◌, ◌&&◌, false, IfOk, map, reverse};
+ghost use Rattle.std.specs.Prelude.{◌≡◌, ◌&&◌, ◌++◌, ◌∷◌, [], false, IfOk, map, reverse};
 ghost use Rattle.std.specs.Option.{option_map};
 ghost use Rattle.c_typing.specs.Types as types;
+ghost use Rattle.c_typing.specs.Operands.{value};
 ghost use Rattle.c_typing.specs.Operators as operators;
 ghost use Rattle.c_typing.specs.Expressions as spec;
 ghost use Rattle.c_typing.specs.OfTrees as trees;
@@ -12,12 +14,13 @@ ghost use Rattle.c_type_expressions.specs.Chains as chains;
 ghost use Rattle.c_type_expressions.specs.Chains.{chain_of, settled_behind, gives_integer, ends_in_null, longer, arm_at};
 
 use crate::refusals::refused;
+use crate::trees::{tree_at, with_item};
 use crate::truth::truth_row;
 use c_tree::typed::{Arm, CType, TExpr};
 use c_tree::{FaultKind, Pos};
 use c_type_rules::{
-    chosen_by, converted, copied, dropping, is_integer, is_null_constant, is_pointer, is_void,
-    tree_of, value, valued,
+    chosen_by, copied, dropping, is_integer, is_null_constant, is_pointer, is_void, tree_of, value,
+    valued,
 };
 use c_type_walk::{Around, Found};
 use c_typing::Operand;
@@ -65,13 +68,35 @@ pub fn chain_value(alloc: Global, chain: Chain) -> Result<Operand, Memory>
 {
     match chain {
         Chain::End(operand) => Ok(operand),
-        Chain::Choices(Choices { ctype, arms, last }) => {
-            let arms = chosen_arms(alloc, &ctype, arms)?;
-            let last = Boxed::new(alloc, chosen_as(alloc, &ctype, last)?)?;
-            let base = TExpr::Choose(copied(alloc, &ctype)?, arms, last);
-            Ok(value(alloc, ctype, base))
-        }
+        Chain::Choices(choices) => choices_value(alloc, choices),
     }
+}
+
+/// The value of choices.
+fn choices_value(alloc: Global, choices: Choices) -> Result<Operand, Memory>
+    ensures { IfOk result (λ o. o ≡ value choices.ctype (spec.choose choices.ctype (reverse choices.arms) choices.last)) }
+{
+    let Choices { ctype, arms, last } = choices;
+    let Ok(arms) = chosen_arms(alloc, &ctype, arms) else {
+        drop((ctype, last));
+        return Err(Memory);
+    };
+    let Ok(last) = last_choice(alloc, &ctype, last) else {
+        drop((ctype, arms));
+        return Err(Memory);
+    };
+    let Ok(again) = copied(alloc, &ctype) else {
+        drop((ctype, arms, last));
+        return Err(Memory);
+    };
+    Ok(value(alloc, ctype, TExpr::Choose(again, arms, last)))
+}
+
+/// What is chosen where no condition holds, in a box.
+fn last_choice(alloc: Global, ctype: &CType, last: Operand) -> Result<Boxed<TExpr>, Memory>
+    ensures { IfOk result (λ tree. tree ≡ spec.chosen_as ctype.now last) }
+{
+    Ok(Boxed::new(alloc, chosen_as(alloc, ctype, last)?)?)
 }
 
 /// A chain with one more condition in front, and what is chosen where that holds (C11 6.5.15p2, p3).
@@ -144,7 +169,10 @@ fn chosen_row(
 ) -> Result<Option<Chain>, Memory>
     ensures { WalksAs chain_of (spec.chosen_if place condition gives (chain_of rest) (operators.chosen gives (chain_of rest).whole)) around.now found.old result found.new }
 {
-    let rest = settled(alloc, &gives.ctype, rest)?;
+    let Ok(rest) = settled(alloc, &gives.ctype, rest) else {
+        drop((condition, gives));
+        return Err(Memory);
+    };
     settled_row(alloc, found, around, place, condition, gives, rest)
 }
 
@@ -161,7 +189,10 @@ fn settled_row(
     requires { (types.is_pointer gives.ctype && gives_integer rest) ≡ false }
     ensures { WalksAs chain_of (spec.chosen_if place condition gives (chain_of rest) (operators.chosen gives (chain_of rest).whole)) around.now found.old result found.new }
 {
-    let ctype = chosen_type(alloc, &gives, &rest)?;
+    let Ok(ctype) = chosen_type(alloc, &gives, &rest) else {
+        drop((condition, gives, rest));
+        return Err(Memory);
+    };
     let Some(ctype) = ctype else {
         return refused(
             found,
@@ -255,16 +286,26 @@ fn one_choice(
 ) -> Result<Chain, Memory>
     ensures { IfOk result (λ r. r ≡ longer ctype arm (chain.End last)) }
 {
-    let mut arms = Items::new(alloc);
-    arms.push(arm)?;
+    let Ok(arms) = with_item(Items::new(alloc), arm) else {
+        drop((ctype, last));
+        return Err(Memory);
+    };
     Ok(Chain::Choices(Choices { ctype, arms, last }))
 }
 
 fn one_more_choice(ctype: CType, arm: (Operand, Operand), choices: Choices) -> Result<Chain, Memory>
     ensures { IfOk result (λ r. r ≡ longer ctype arm (chain.Choices choices)) }
 {
-    let Choices { mut arms, last, .. } = choices;
-    arms.push(arm)?;
+    let Choices {
+        ctype: before,
+        arms,
+        last,
+    } = choices;
+    drop(before);
+    let Ok(arms) = with_item(arms, arm) else {
+        drop((ctype, last));
+        return Err(Memory);
+    };
     Ok(Chain::Choices(Choices { ctype, arms, last }))
 }
 
@@ -277,13 +318,46 @@ fn chosen_arms(
     ensures { IfOk result (λ list. list ≡ map (arm_at ctype.now) (reverse arms)) }
 {
     let mut list = Items::new(alloc);
-    while let Some((condition, chosen)) = arms.pop() {
-        list.push(Arm {
-            condition: tree_of(alloc, condition)?,
-            chosen: chosen_as(alloc, ctype, chosen)?,
-        })?;
+    while let Some(arm) = arms.pop() {
+        let Ok(longer) = with_arm(alloc, ctype, list, arm) else {
+            drop(arms);
+            return Err(Memory);
+        };
+        list = longer;
     }
+    drop(arms);
     Ok(list)
+}
+
+/// One more condition behind others.
+fn with_arm(
+    alloc: Global,
+    ctype: &CType,
+    list: Items<Arm>,
+    arm: (Operand, Operand),
+) -> Result<Items<Arm>, Memory>
+    ensures { IfOk result (λ longer. longer ≡ list ++ arm_at ctype.now arm ∷ []) }
+{
+    let Ok(arm) = arm_of(alloc, ctype, arm.0, arm.1) else {
+        drop(list);
+        return Err(Memory);
+    };
+    with_item(list, arm)
+}
+
+/// A condition and what is chosen where it holds, as trees.
+fn arm_of(alloc: Global, ctype: &CType, condition: Operand, chosen: Operand) -> Result<Arm, Memory>
+    ensures { IfOk result (λ arm. arm ≡ arm_at ctype.now (condition, chosen)) }
+{
+    let Ok(condition) = tree_of(alloc, condition) else {
+        drop(chosen);
+        return Err(Memory);
+    };
+    let Ok(chosen) = chosen_as(alloc, ctype, chosen) else {
+        drop(condition);
+        return Err(Memory);
+    };
+    Ok(Arm { condition, chosen })
 }
 
 /// What is chosen, as a value of the type of the whole; at `void` a value is dropped (C11 6.5.15p5).
@@ -293,6 +367,6 @@ fn chosen_as(alloc: Global, ctype: &CType, operand: Operand) -> Result<TExpr, Me
     if is_void(ctype) {
         tree_of(alloc, dropping(alloc, operand)?)
     } else {
-        tree_of(alloc, converted(alloc, copied(alloc, ctype)?, operand)?)
+        tree_at(alloc, ctype, operand)
     }
 }

@@ -1,16 +1,18 @@
-//! Values given to objects: initialisers, arguments, and what `return` gives (C11 6.5.16.1p1).
+//! The row of a value that an object is given, by an initialiser, as an argument or by
+//! `return` (C11 6.5.16.1p1).
 
-ghost use Rattle.std.specs.Prelude.{◌≡◌};
+ghost use Rattle.std.specs.Prelude.{◌≡◌, IfOk};
+ghost use Rattle.c_typing.specs.Types as types;
+ghost use Rattle.c_typing.specs.Operands as operands;
 ghost use Rattle.c_typing.specs.declared.operand.Operand.{Operand};
 ghost use Rattle.c_typing.specs.Expressions as spec;
 ghost use Rattle.c_type_walk.specs.Walks.{Walks};
 
 use crate::refusals::refused;
+use crate::trees::converted_tree;
 use c_tree::typed::{CType, TExpr};
 use c_tree::{FaultKind, Pos};
-use c_type_rules::{
-    alike, converted, copied, is_assignable, is_struct, tree_of, unqualified, valued,
-};
+use c_type_rules::{alike, copied, is_assignable, is_struct, unqualified, valued};
 use c_type_walk::{Around, Found};
 use c_typing::Operand;
 use std::alloc::Global;
@@ -38,8 +40,18 @@ pub fn given_row(
     if !is_assignable(ctype, &value) {
         return refused(found, around, FaultKind::Mismatch, place, value);
     }
-    let ctype = unqualified(copied(alloc, ctype)?);
-    Ok(Some(tree_of(alloc, converted(alloc, ctype, value)?)?))
+    Ok(Some(kept(alloc, ctype, value)?))
+}
+
+/// A value as an object of this type keeps it.
+fn kept(alloc: Global, ctype: &CType, value: Operand) -> Result<TExpr, Memory>
+    ensures { IfOk result (λ tree. tree ≡ operands.tree_of (operands.converted (types.unqualified ctype.now) value)) }
+{
+    let Ok(ctype) = copied(alloc, ctype) else {
+        drop(value);
+        return Err(Memory);
+    };
+    converted_tree(alloc, unqualified(ctype), value)
 }
 
 /// Whether an object of structure type is given a value of the same one, which this profile does not give yet.

@@ -1,6 +1,9 @@
-//! `++` and `--` (C11 6.5.2.4, 6.5.3.1).
+//! The rows of `++` and `--` (C11 6.5.2.4, 6.5.3.1): how the object is changed, and which
+//! value is given.
 
 ghost use Rattle.std.specs.Prelude.{◌≡◌, true, IfOk};
+ghost use Rattle.c_tree.specs.declared.typed.expression.TExpr.TheVariants as x;
+ghost use Rattle.c_tree.specs.declared.typed.operator.Primary.TheVariants as primary;
 ghost use Rattle.c_typing.specs.Types as types;
 ghost use Rattle.c_typing.specs.Conversions as conversions;
 ghost use Rattle.c_typing.specs.Operands as operands;
@@ -40,7 +43,11 @@ pub fn increment_row(
     let Some(operand) = changing_row(found, around, mark.place, operand)? else {
         return Ok(None);
     };
-    match stepped(alloc, &found.state.structs, mark.punct, &operand)? {
+    let Ok(row) = stepped(alloc, &found.state.structs, mark.punct, &operand) else {
+        drop(operand);
+        return Err(Memory);
+    };
+    match row {
         Row::Planned(plan) => incremented_row(
             alloc, found, around, mark.place, given, operand, plan,
         ),
@@ -77,33 +84,55 @@ fn incremented_row(
     let Some(scalar) = scalar_of(&lvalue.ctype) else {
         return refused(found, around, FaultKind::Mismatch, place, (lvalue, plan));
     };
-    if !takes_back(alloc, &lvalue, &plan.result)? {
+    let Ok(is_taken) = takes_back(alloc, &lvalue, &plan.result) else {
+        drop((lvalue, plan));
+        return Err(Memory);
+    };
+    if !is_taken {
         return refused(found, around, FaultKind::Mismatch, place, (lvalue, plan));
     }
+    let operator = plan.operator;
+    drop(plan);
     let increment = Increment {
         scalar,
-        operator: plan.operator,
+        operator,
         conversion: conversion_to(&lvalue.ctype),
         given,
     };
-    let ctype = unqualified(copied(alloc, &lvalue.ctype)?);
-    Ok(Some(incremented(alloc, ctype, increment, lvalue)?))
+    Ok(Some(incremented(alloc, increment, lvalue)?))
 }
 
 /// The value of `++` or `--`: an automatic object is changed by its name, and another object by its address.
-fn incremented(
-    alloc: Global,
-    ctype: CType,
-    increment: Increment,
-    lvalue: Operand,
-) -> Result<Operand, Memory>
-    ensures { IfOk result (λ o. o ≡ spec.incremented lvalue.form ctype increment lvalue) }
+fn incremented(alloc: Global, increment: Increment, lvalue: Operand) -> Result<Operand, Memory>
+    ensures { IfOk result (λ o. o ≡ spec.incremented lvalue.form (types.unqualified lvalue.ctype) increment lvalue) }
 {
+    let Ok(ctype) = copied(alloc, &lvalue.ctype) else {
+        drop(lvalue);
+        return Err(Memory);
+    };
+    let ctype = unqualified(ctype);
     match lvalue.form {
         Form::Named { place, .. } => {
-            let base = TExpr::Primary(copied(alloc, &ctype)?, Primary::Increment(place, increment));
-            Ok(value(alloc, ctype, base))
+            drop(lvalue);
+            variable_incremented(alloc, ctype, place, increment)
         }
         _ => then_unary(Form::Value, ctype, Unary::Increment(increment), lvalue),
     }
+}
+
+/// The value of `++` or `--` of the automatic object at this place.
+fn variable_incremented(
+    alloc: Global,
+    ctype: CType,
+    place: u32,
+    increment: Increment,
+) -> Result<Operand, Memory>
+    ensures { IfOk result (λ o. o ≡ operands.value ctype (x.Primary ctype (primary.Increment place increment))) }
+{
+    let Ok(again) = copied(alloc, &ctype) else {
+        drop(ctype);
+        return Err(Memory);
+    };
+    let base = TExpr::Primary(again, Primary::Increment(place, increment));
+    Ok(value(alloc, ctype, base))
 }

@@ -21,6 +21,7 @@ mod sequences;
 mod sizes;
 mod stand_in;
 mod strings;
+mod trees;
 mod truth;
 mod writing;
 

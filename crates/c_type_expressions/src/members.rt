@@ -1,10 +1,16 @@
-//! `.` and `->` (C11 6.5.2.3).
+//! The rows of `.` and `->` (C11 6.5.2.3): a member of a structure, as an lvalue or
+//! as a value.
 
+ghost use Rattle.std.specs.Prelude.{◌≡◌, IfOk};
+ghost use Rattle.c_tree.specs.declared.typed.operator.Unary.TheVariants as unary;
+ghost use Rattle.c_typing.specs.declared.operand.Form.TheVariants as form;
+ghost use Rattle.c_typing.specs.Types as types;
+ghost use Rattle.c_typing.specs.Operands as operands;
 ghost use Rattle.c_typing.specs.Expressions as spec;
 ghost use Rattle.c_type_walk.specs.Walks.{Walks};
 
 use crate::refusals::refused;
-use c_layout::member;
+use c_layout::{MemberLayout, member};
 use c_tree::typed::{Base, CType, Unary};
 use c_tree::{FaultKind, Identifier, Pos};
 use c_type_rules::{
@@ -31,8 +37,13 @@ pub fn member_row(
     ensures { Walks (spec.member_row name.now place operand) around.now found.old result found.new }
 {
     let stays_lvalue = is_lvalue(&operand);
-    let ctype = copied(alloc, &operand.ctype)?;
-    let Some(member) = member_of_type(alloc, found, around, name, place, &ctype, operand)? else {
+    let Ok(ctype) = copied(alloc, &operand.ctype) else {
+        drop(operand);
+        return Err(Memory);
+    };
+    let member = member_of_type(alloc, found, around, name, place, &ctype, operand);
+    drop(ctype);
+    let Some(member) = member? else {
         return Ok(None);
     };
     if stays_lvalue {
@@ -58,10 +69,16 @@ pub fn arrow_row(
     ensures { Walks (spec.arrow_row name.now place operand) around.now found.old result found.new }
 {
     let value = valued(alloc, operand)?;
-    let Some(ctype) = target(copied(alloc, &value.ctype)?) else {
+    let Ok(pointer) = copied(alloc, &value.ctype) else {
+        drop(value);
+        return Err(Memory);
+    };
+    let Some(ctype) = target(pointer) else {
         return refused(found, around, FaultKind::Mismatch, place, value);
     };
-    member_of_type(alloc, found, around, name, place, &ctype, value)
+    let member = member_of_type(alloc, found, around, name, place, &ctype, value);
+    drop(ctype);
+    member
 }
 
 /// A member of a structure of this type at the operand.
@@ -103,7 +120,22 @@ fn member_of_base(
     let Some(layout) = member(tag, &name.text, &found.state.structs) else {
         return refused(found, around, FaultKind::Undeclared, name.place, operand);
     };
-    let member_type = constant_if(is_constant(ctype), copied(alloc, &layout.ctype)?);
+    Ok(Some(member_at(alloc, is_constant(ctype), layout, operand)?))
+}
+
+/// The member that lies here in a structure, `const` where the structure is.
+fn member_at(
+    alloc: Global,
+    constant: bool,
+    layout: &MemberLayout,
+    structure: Operand,
+) -> Result<Operand, Memory>
+    ensures { IfOk result (λ o. o ≡ operands.then_unary form.Place (types.constant_if constant layout.now.ctype) (unary.Member (types.in_word layout.now.offset)) structure) }
+{
+    let Ok(ctype) = copied(alloc, &layout.ctype) else {
+        drop(structure);
+        return Err(Memory);
+    };
     let step = Unary::Member(in_word(layout.offset));
-    Ok(Some(then_unary(Form::Place, member_type, step, operand)?))
+    then_unary(Form::Place, constant_if(constant, ctype), step, structure)
 }

@@ -1,4 +1,5 @@
-//! Names (C11 6.5.1p2).
+//! The row of a name (C11 6.5.1p2): an enumeration constant, or the lvalue of an object,
+//! by what the name stands for where it is used.
 
 ghost use Rattle.std.specs.Prelude.{◌≡◌, IfOk, Some};
 ghost use Rattle.c_tree.specs.declared.typed.expression.TExpr.TheVariants as x;
@@ -56,7 +57,9 @@ pub fn name_row(
         }
         Some(Meaning::Linked(ctype)) => {
             let ctype = copied(alloc, ctype)?;
-            linked_name(alloc, found, around, name, &ctype)
+            let object = linked_name(alloc, found, around, name, &ctype);
+            drop(ctype);
+            object
         }
         Some(Meaning::Unknown) => Ok(None),
     }
@@ -85,6 +88,10 @@ fn linked_name(
 fn object(alloc: Global, form: Form, ctype: &CType, address: Primary) -> Result<Operand, Memory>
     ensures { IfOk result (λ o. o ≡ operands.operand form ctype.now (x.Primary ctype.now address)) }
 {
-    let base = TExpr::Primary(copied(alloc, ctype)?, address);
-    Ok(operand(alloc, form, copied(alloc, ctype)?, base))
+    let ctype_of_base = copied(alloc, ctype)?;
+    let Ok(ctype) = copied(alloc, ctype) else {
+        drop(ctype_of_base);
+        return Err(Memory);
+    };
+    Ok(operand(alloc, form, ctype, TExpr::Primary(ctype_of_base, address)))
 }

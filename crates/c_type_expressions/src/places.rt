@@ -1,6 +1,10 @@
-//! `*` and `&` (C11 6.5.3.2).
+//! The rows of `*` and `&` (C11 6.5.3.2): the lvalue to which an address leads, and the
+//! address of an lvalue.
 
-ghost use Rattle.std.specs.Prelude.{◌≡◌, OnOk};
+ghost use Rattle.std.specs.Prelude.{◌≡◌, false, IfOk, OnOk};
+ghost use Rattle.c_typing.specs.declared.operand.Form.TheVariants as form;
+ghost use Rattle.c_typing.specs.Types as types;
+ghost use Rattle.c_typing.specs.Operands as operands;
 ghost use Rattle.c_typing.specs.Expressions as spec;
 ghost use Rattle.c_type_walk.specs.Walks.{Walks};
 
@@ -19,7 +23,7 @@ use word_ops::Memory;
 /// # Errors
 ///
 /// `Memory` where memory is wanting.
-pub fn indirection_row(
+pub(crate) fn indirection_row(
     alloc: Global,
     found: &mut Found,
     around: &Around<'_>,
@@ -29,12 +33,28 @@ pub fn indirection_row(
     ensures { Walks (spec.indirection_row place operand) around.now found.old result found.new }
 {
     let value = valued(alloc, operand)?;
-    let target = target(copied(alloc, &value.ctype)?);
-    reached(found, around, place, value, target)
+    led_to(alloc, found, around, place, value)
+}
+
+/// The lvalue to which the value of a pointer leads.
+pub(crate) fn led_to(
+    alloc: Global,
+    found: &mut Found,
+    around: &Around<'_>,
+    place: Pos,
+    address: Operand,
+) -> Result<Option<Operand>, Memory>
+    ensures { Walks (spec.reached place address (operands.target_of address.ctype)) around.now found.old result found.new }
+{
+    let Ok(pointer) = copied(alloc, &address.ctype) else {
+        drop(address);
+        return Err(Memory);
+    };
+    reached(found, around, place, address, target(pointer))
 }
 
 /// The lvalue of a type to which an address leads, where there is such a type and it is complete.
-pub(crate) fn reached(
+fn reached(
     found: &mut Found,
     around: &Around<'_>,
     place: Pos,
@@ -63,7 +83,7 @@ pub(crate) fn reached(
 /// # Errors
 ///
 /// `Memory` where memory is wanting.
-pub fn address_row(
+pub(crate) fn address_row(
     alloc: Global,
     found: &mut Found,
     around: &Around<'_>,
@@ -75,9 +95,29 @@ pub fn address_row(
     if !is_lvalue(&operand) || in_register(&operand) {
         return refused(found, around, FaultKind::NotLvalue, place, operand);
     }
-    keep_addressed(found, numbered(&operand))?;
-    let pointer = pointer_to(false, copied(alloc, &operand.ctype)?)?;
-    Ok(Some(as_form(Form::Value, pointer, operand)))
+    if keep_addressed(found, numbered(&operand)).is_err() {
+        drop(operand);
+        return Err(Memory);
+    }
+    Ok(Some(address_of(alloc, operand)?))
+}
+
+/// The address of an object, as a value.
+fn address_of(alloc: Global, object: Operand) -> Result<Operand, Memory>
+    ensures { IfOk result (λ o. o ≡ operands.as_form form.Value (types.pointer_to false object.ctype) object) }
+{
+    let Ok(pointer) = pointer_to_type(alloc, &object.ctype) else {
+        drop(object);
+        return Err(Memory);
+    };
+    Ok(as_form(Form::Value, pointer, object))
+}
+
+/// The type of pointers to objects of this type.
+fn pointer_to_type(alloc: Global, ctype: &CType) -> Result<CType, Memory>
+    ensures { IfOk result (λ t. t ≡ types.pointer_to false ctype.now) }
+{
+    pointer_to(false, copied(alloc, ctype)?)
 }
 
 /// Keeps that the address of the automatic object of this number is taken.

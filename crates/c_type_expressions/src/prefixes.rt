@@ -1,4 +1,5 @@
-//! Prefix operators (C11 6.5.3, 6.5.4).
+//! The rows of prefix operators (C11 6.5.3, 6.5.4), of which each is the row of its
+//! operator, of `sizeof` or of a cast.
 
 ghost use Rattle.c_typing.specs.OfTrees as spec;
 ghost use Rattle.c_type_walk.specs.Walks.{Walks};
@@ -45,7 +46,11 @@ pub fn prefix_row(
 {
     match prefix {
         Prefixing::Marking(mark) => mark_row(alloc, found, around, mark, operand),
-        Prefixing::Sizing(place) => size_row(alloc, found, around, place, &operand.ctype),
+        Prefixing::Sizing(place) => {
+            let size = size_row(alloc, found, around, place, &operand.ctype);
+            drop(operand);
+            size
+        }
         Prefixing::Casting(place, ctype) => {
             cast_row(alloc, found, around, place, ctype, operand)
         }
@@ -57,7 +62,7 @@ pub fn prefix_row(
 /// # Errors
 ///
 /// `Memory` where memory is wanting.
-pub fn mark_row(
+fn mark_row(
     alloc: Global,
     found: &mut Found,
     around: &Around<'_>,

@@ -1,6 +1,6 @@
-//! Constructs that are nothing, and their parts.
+//! What a row gives whose operands do not fit: the fault is told at its place,
+//! nothing is found, and the operands are let go of.
 
-ghost use Rattle.std.specs.Prelude.{◌≡◌};
 ghost use Rattle.c_typing.specs.Scopes as scopes;
 ghost use Rattle.c_type_walk.specs.Walks.{Walks};
 

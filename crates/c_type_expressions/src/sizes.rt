@@ -1,4 +1,5 @@
-//! `sizeof` (C11 6.5.3.4).
+//! The row of `sizeof` (C11 6.5.3.4): the size of a type as a constant, within the limit
+//! of 2^24 bytes.
 
 ghost use Rattle.c_typing.specs.Expressions as spec;
 ghost use Rattle.c_type_walk.specs.Walks.{Walks};

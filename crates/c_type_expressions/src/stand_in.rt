@@ -1,4 +1,5 @@
-//! Operands that stand for others of which only the type matters.
+//! Operands that stand for others of which only the type matters: the rows of compound
+//! assignments, `++` and `--` ask the table of operators about them.
 
 ghost use Rattle.std.specs.Prelude.{◌≡◌, true, IfOk, is_some};
 ghost use Rattle.c_typing.specs.Types as types;
@@ -13,7 +14,7 @@ use c_layout::Tags;
 use c_tree::Punct;
 use c_tree::typed::CType;
 use c_type_rules::{
-    LentType, TypeShape, binary, copied, is_assignable, number, pointer_to, shape, unqualified,
+    TypeShape, binary, copied, is_assignable, number, pointer_to, shape, unqualified,
 };
 use c_typing::{Operand, Row};
 use std::alloc::Global;
@@ -88,8 +89,14 @@ fn combined_stand_ins(
 ) -> Result<Row, Memory>
     ensures { IfOk result (λ row. row ≡ operators.binary tags.now operator (stand_in_of left) (stand_in_of right)) }
 {
-    let left = stand_in(alloc, left)?;
-    let right = stand_in(alloc, right)?;
+    let Ok(left) = stand_in(alloc, left) else {
+        drop(right);
+        return Err(Memory);
+    };
+    let Ok(right) = stand_in(alloc, right) else {
+        drop(left);
+        return Err(Memory);
+    };
     let row = binary(alloc, tags, operator, &left, &right);
     drop((left, right));
     row

@@ -1,13 +1,20 @@
-//! String literals (C11 6.4.5p6).
+//! The row of a string literal (C11 6.4.5p6): the array that it is, and its object
+//! among the static ones of the unit.
 
 ghost use Rattle.std.specs.Prelude.{◌≡◌, ◌<◌, ◌^◌, ◌+◌, IfOk, length};
+ghost use Rattle.c_tree.specs.declared.typed.expression.TExpr.TheVariants as x;
+ghost use Rattle.c_tree.specs.declared.typed.operator.Primary.TheVariants as primary;
+ghost use Rattle.c_typing.specs.declared.operand.Form.TheVariants as form;
+ghost use Rattle.c_typing.specs.Operands as operands;
 ghost use Rattle.c_typing.specs.Expressions as spec;
 ghost use Rattle.c_type_walk.specs.Walks.{Walks};
 
+use crate::refusals::refused;
 use crate::sizes::LARGEST;
+use crate::trees::with_item;
 use c_tree::typed::{Base, CType, Derived, Object, Primary, StaticObject, StaticPart, TExpr};
 use c_tree::{FaultKind, Pos};
-use c_type_rules::{derived_from, operand, plain};
+use c_type_rules::{copied, derived_from, operand, plain};
 use c_type_walk::{Around, Found};
 use c_typing::{Form, Operand};
 use std::alloc::Global;
@@ -29,13 +36,41 @@ pub fn string_row(
     ensures { Walks (spec.string_row place bytes) around.now found.old result found.new }
 {
     if bytes.as_slice().len() as u64 >= LARGEST {
-        return found.tell(around, FaultKind::TooLarge, place);
+        return refused(found, around, FaultKind::TooLarge, place, bytes);
     }
-    let number = next_static(found, around)?;
-    let base = TExpr::Primary(string_type(alloc, &bytes)?, Primary::Static(number));
-    let operand = operand(alloc, Form::Place, string_type(alloc, &bytes)?, base);
-    found.state.statics.push(string_object(alloc, bytes)?)?;
+    let Ok(operand) = string_operand(alloc, found, around, &bytes) else {
+        drop(bytes);
+        return Err(Memory);
+    };
+    let Ok(object) = string_object(alloc, bytes) else {
+        drop(operand);
+        return Err(Memory);
+    };
+    if found.state.statics.push(object).is_err() {
+        drop(operand);
+        return Err(Memory);
+    }
     Ok(Some(operand))
+}
+
+/// The lvalue of a string literal, of which the object is the next static one.
+fn string_operand(
+    alloc: Global,
+    found: &Found,
+    around: &Around<'_>,
+    bytes: &Text,
+) -> Result<Operand, Memory>
+    requires { length bytes.now < 2 ^ 24 }
+    ensures { IfOk result (λ o. o ≡ operands.operand form.Place (spec.string_type bytes.now) (x.Primary (spec.string_type bytes.now) (primary.Static (length around.now.objects.now + length found.now.state.statics)))) }
+{
+    let number = next_static(found, around)?;
+    let ctype = string_type(alloc, bytes)?;
+    let Ok(again) = copied(alloc, &ctype) else {
+        drop(ctype);
+        return Err(Memory);
+    };
+    let base = TExpr::Primary(again, Primary::Static(number));
+    Ok(operand(alloc, Form::Place, ctype, base))
 }
 
 /// The number of the next static object: those of the file stand first, and string literals and the static objects of
@@ -63,26 +98,34 @@ fn string_object(alloc: Global, bytes: Text) -> Result<StaticObject, Memory>
     requires { length bytes < 2 ^ 24 }
     ensures { IfOk result (λ o. o ≡ spec.string_object bytes) }
 {
-    Ok(StaticObject {
-        object: Object {
-            ctype: string_type(alloc, &bytes)?,
-            scalar: None,
-            size: bytes.as_slice().len() as u32 + 1,
-            alignment: 1,
-            constant: true,
-            addressed: true,
-        },
-        parts: bytes_at_start(alloc, bytes)?,
-    })
+    let Ok(ctype) = string_type(alloc, &bytes) else {
+        drop(bytes);
+        return Err(Memory);
+    };
+    let size = bytes.as_slice().len() as u32 + 1;
+    let Ok(parts) = bytes_at_start(alloc, bytes) else {
+        drop(ctype);
+        return Err(Memory);
+    };
+    let object = Object {
+        ctype,
+        scalar: None,
+        size,
+        alignment: 1,
+        constant: true,
+        addressed: true,
+    };
+    Ok(StaticObject { object, parts })
 }
 
 /// The bytes with which an object begins, where there are any.
 fn bytes_at_start(alloc: Global, bytes: Text) -> Result<Items<StaticPart>, Memory>
     ensures { IfOk result (λ parts. parts ≡ spec.bytes_at 0 bytes) }
 {
-    let mut parts = Items::new(alloc);
-    if !bytes.as_slice().is_empty() {
-        parts.push(StaticPart::Bytes(0, bytes))?;
+    if bytes.as_slice().is_empty() {
+        drop(bytes);
+        Ok(Items::new(alloc))
+    } else {
+        with_item(Items::new(alloc), StaticPart::Bytes(0, bytes))
     }
-    Ok(parts)
 }

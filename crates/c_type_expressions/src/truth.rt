@@ -1,4 +1,5 @@
-//! Operands that are true or false (C11 6.5.3.3p5, 6.5.13p2, 6.5.15p2).
+//! The rows of operands that are true or false, those of `&&`, `||` and `? :`,
+//! and the row of `!` (C11 6.5.3.3p5, 6.5.13p2, 6.5.14p2, 6.5.15p2).
 
 ghost use Rattle.c_typing.specs.Expressions as spec;
 ghost use Rattle.c_type_walk.specs.Walks.{Walks};
@@ -38,7 +39,7 @@ pub fn truth_row(
 /// # Errors
 ///
 /// `Memory` where memory is wanting.
-pub fn not_row(
+pub(crate) fn not_row(
     alloc: Global,
     found: &mut Found,
     around: &Around<'_>,

@@ -1,8 +1,8 @@
-//! What may be written (C11 6.3.2.1p1, 6.5.16p2).
+//! Which operands may be written (C11 6.3.2.1p1, 6.5.16p2): the left sides of
+//! assignments, and the operands of `++` and `--`.
 
 ghost use Rattle.std.specs.Prelude.{◌≡◌, suc, IfOk};
 ghost use Rattle.std.specs.List.{list_any};
-ghost use Rattle.c_typing.specs.Operands as operands;
 ghost use Rattle.c_typing.specs.Expressions as spec;
 ghost use Rattle.c_type_walk.specs.Walks.{Walks};
 ghost use Rattle.c_type_expressions.specs.Lvalues.{IsLvalue};
@@ -20,7 +20,7 @@ use word_ops::Memory;
 /// # Errors
 ///
 /// `Memory` where memory is wanting.
-pub fn target_row(
+pub(crate) fn target_row(
     found: &mut Found,
     around: &Around<'_>,
     place: Pos,
@@ -43,7 +43,7 @@ pub fn target_row(
 /// # Errors
 ///
 /// `Memory` where memory is wanting.
-pub fn changing_row(
+pub(crate) fn changing_row(
     found: &mut Found,
     around: &Around<'_>,
     place: Pos,
@@ -63,7 +63,7 @@ pub fn changing_row(
 
 /// Whether an object of this type may not be modified: it is `const`, or a structure, or an array of structures, of which a
 /// member is `const`, or a member of a member (C11 6.3.2.1p1).
-pub fn is_read_only(tags: &Tags, ctype: &CType) -> bool
+fn is_read_only(tags: &Tags, ctype: &CType) -> bool
     ensures { result ≡ spec.is_read_only tags.now ctype.now }
 {
     is_constant(ctype)

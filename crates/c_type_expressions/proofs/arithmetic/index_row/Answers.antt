@@ -1,3 +1,5 @@
+-- The row of `a[i]` for the values of the two operands
+-- is that for the operands.
 use Rattle.std.proofs.Common.{◌≡◌, ◌∙◌, sym, subst, [], ◌∷◌, Option, Result, Ok, Err}
 use Rattle.word_ops.specs.declared.memory.Memory.{Memory}
 use Rattle.c_tree.specs.declared.token.Pos.{Pos}
@@ -26,5 +28,5 @@ indexed at l r one other row c old new (Err x) e f g w = tt
 
 pub returns-in-Planned : goal.returns-in-Planned
 returns-in-Planned c =
-    indexed c.args.place c.args.left c.args.right c.in_ok-left.left c.in_ok-right.right _ c.args.around.now c.args.found.now c.element.new.found c.element.result
-    c.in_ok-left.ensures c.in_ok-right.ensures (sym c.in-Planned.is ∙ c.in_ok-row.ensures) c.element.ensures
+    indexed c.args.place c.args.left c.args.right c.in-Ok.left c.in-Ok-valued.right _ c.args.around.now c.args.found.now c.element.new.found c.element.result
+    c.in-Ok.ensures c.in-Ok-valued.ensures (sym c.in-Planned.is ∙ c.in-Ok-index.ensures) c.element.ensures

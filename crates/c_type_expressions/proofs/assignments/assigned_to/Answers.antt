@@ -1,3 +1,5 @@
+-- A chain with one more left side in front
+-- is the chain of the definition.
 use Rattle.std.proofs.Common.{◌∙◌, ap}
 use Rattle.std.proofs.lemmas.Result.{IfOk-weaker}
 use Rattle.c_tree.specs.declared.typed.types.CType.{CType}

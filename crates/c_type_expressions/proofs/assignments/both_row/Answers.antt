@@ -1,3 +1,5 @@
+-- The left side of a compound assignment is an lvalue,
+-- and its operator is one that assignments contain.
 use Rattle.std.proofs.Common.{subst}
 use Rattle.c_type_expressions.specs.Lvalues.{IsLvalue}
 use Rattle.c_type_expressions.proofs.assignments.both_row.Goals as goal

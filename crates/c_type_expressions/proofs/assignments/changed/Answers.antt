@@ -1,3 +1,5 @@
+-- What is done with the object of a left side
+-- converts the value to the type of the object.
 use Rattle.std.proofs.lemmas.Result.{IfOk-weaker}
 use Rattle.c_type_expressions.proofs.Targets.{target-same}
 use Rattle.c_type_expressions.proofs.assignments.changed.Goals as goal

@@ -1,3 +1,5 @@
+-- The row of a compound assignment
+-- is that of the plan of its operator.
 use Rattle.std.proofs.Common.{◌≡◌, ◌∙◌, sym, subst, Option, Some, Result, Ok, Err}
 use Rattle.std.specs.Option.{option_map}
 use Rattle.word_ops.specs.declared.memory.Memory.{Memory}

@@ -1,3 +1,5 @@
+-- The loop over left sides from the last to the first:
+-- those that were taken, and those that are left, are all.
 use Rattle.std.proofs.Common.{◌≡◌, ◌++◌, ◌∷◌, reverse, length}
 use Rattle.c_type_expressions.proofs.assignments.in_order.Given as goal
 

@@ -1,3 +1,5 @@
+-- What a compound assignment gives is taken back:
+-- the left side is an lvalue, and of scalar type.
 use Rattle.std.proofs.Common.{ap, sym, is_some, Option}
 use Rattle.c_tree.specs.declared.typed.operator.Scalar.{Scalar}
 use Rattle.c_type_expressions.proofs.assignments.planned_row.Goals as goal

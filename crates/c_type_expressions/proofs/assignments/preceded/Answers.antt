@@ -1,3 +1,5 @@
+-- One more left side in front of an operand,
+-- or in front of assignments.
 use Rattle.std.proofs.Common.{◌∙◌, ap}
 use Rattle.std.proofs.lemmas.Result.{IfOk-weaker}
 use Rattle.c_type_expressions.specs.Assignments.{assigned_of}

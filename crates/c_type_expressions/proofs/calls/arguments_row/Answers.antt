@@ -1,4 +1,6 @@
-use Rattle.std.proofs.Common.{◌≡◌, ◌∙◌, refl, sym, subst, List, [], ◌∷◌, Option}
+-- One argument more in the row of a call,
+-- and the end of the arguments.
+use Rattle.std.proofs.Common.{◌≡◌, ◌∙◌, sym, subst, List, [], ◌∷◌, Option}
 use Rattle.std.proofs.lemmas.List.{nil_from_length}
 use Rattle.c_tree.specs.declared.token.Pos.{Pos}
 use Rattle.c_tree.specs.declared.typed.types.CType.{CType}
@@ -37,8 +39,8 @@ loop-place-preserved c = record {
   is_finite = tt;
   so_far = one_more (fixed c.args.around.now) c.in-Some.place c.in-Some.argument c.loop-place.place-iterator.rest.items c.next.new.self.rest.items
       c.loop-place.left.now c.in-Some-split_first.behind.now c.in-Some-split_first.ctype.now _ c.args.found.now.faults c.loop-place.found c.argument_row.new.found
-      c.loop-place.given c.in_ok-given.given c.in_ok-value.value c.in-Some.ensures.steps.0 c.in-Some-split_first.ensures.cases.0 c.in_ok-given.ensures
-      c.loop-place.invariant.so_far c.in_ok-value.ensures;
+      c.loop-place.given c.in_ok-given.given c.in-Ok.value c.in-Some.ensures.steps.0 c.in-Some-split_first.ensures.cases.0 c.in_ok-given.ensures
+      c.loop-place.invariant.so_far c.in-Ok.ensures;
 }
 
 pub returns : goal.returns

@@ -1,3 +1,5 @@
+-- The loop over the arguments of a call: what has been given so far, and the row of
+-- the rest, are the whole row.
 use Rattle.c_typing.specs.Expressions as spec
 use Rattle.c_type_walk.specs.Walks.{fixed}
 use Rattle.c_type_expressions.proofs.Arguments.{SoFar}

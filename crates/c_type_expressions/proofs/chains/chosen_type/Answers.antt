@@ -1,3 +1,5 @@
+-- The type of an operand and a chain as one
+-- is that of the operand and the value of the chain.
 use Rattle.std.proofs.Common.{◌≡◌, ◌∙◌, ap, Bool}
 use Rattle.c_tree.specs.declared.typed.types.CType.{CType}
 use Rattle.c_typing.specs.Operators.{chosen, chosen_by}

@@ -1,3 +1,5 @@
+-- The row of `? :` where its operands go together
+-- gives the chain with one more condition.
 use Rattle.std.proofs.Common.{◌≡◌, ◌∙◌, ap, refl, sym, subst, false, ◌&&◌, Option, Some}
 use Rattle.std.proofs.lemmas.List.{append-nil}
 use Rattle.c_tree.specs.declared.token.Pos.{Pos}
@@ -27,5 +29,5 @@ gave_longer at k g rest r t c found h e f =
 
 pub returns : goal.returns
 returns c =
-    let e : chosen c.args.gives (chain_of c.args.rest).whole ≡ Some c.in-Some.ctype = sym c.in_ok-ctype.ensures ∙ c.in-Some.is in
+    let e : chosen c.args.gives (chain_of c.args.rest).whole ≡ Some c.in-Some.ctype = sym c.in-Ok.ensures ∙ c.in-Some.is in
     gave_longer c.args.place c.args.condition c.args.gives c.args.rest _ c.in-Some.ctype (fixed c.args.around.now) c.args.found.now c.requires e c.in_ok-lengthened.ensures

@@ -1,3 +1,5 @@
+-- What `++` and `--` give is taken back:
+-- the lvalue is one, and of scalar type.
 use Rattle.std.proofs.Common.{ap, sym, is_some, Option}
 use Rattle.c_tree.specs.declared.typed.operator.Scalar.{Scalar}
 use Rattle.c_type_expressions.proofs.increments.incremented_row.Goals as goal

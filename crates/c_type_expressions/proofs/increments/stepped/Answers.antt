@@ -1,3 +1,5 @@
+-- The row of `++` and `--` is that of the operator in them
+-- for the value of the lvalue and the number 1.
 use Rattle.std.proofs.Common.{◌≡◌, ap, sym, Option, Some}
 use Rattle.c_tree.specs.declared.token.Punct.{Punct}
 use Rattle.c_typing.specs.Types.{int}

@@ -1,3 +1,5 @@
+-- The row of an operator for operands that stand in
+-- is that for all operands of their types.
 use Rattle.std.proofs.Common.{sym}
 use Rattle.c_type_expressions.specs.Lvalues.{stand_in_of}
 use Rattle.c_type_expressions.proofs.Ends.{same_end}

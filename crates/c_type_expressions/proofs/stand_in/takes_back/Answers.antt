@@ -1,3 +1,5 @@
+-- A value that stands in for that of an lvalue of scalar type
+-- is assignable where that is.
 use Rattle.std.proofs.Common.{◌≡◌, refl, true, Option, Some, None}
 use Rattle.std.specs.Prelude.{is_some}
 use Rattle.c_tree.specs.declared.typed.types.CType.{CType}

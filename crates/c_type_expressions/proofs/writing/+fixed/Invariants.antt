@@ -1,3 +1,5 @@
+-- The loop over the members of a structure, none of those that were passed being `const`,
+-- and why the search for one ends.
 use Rattle.std.proofs.Common.{◌≡◌, ◌+◌, ◌*◌, drop}
 use Rattle.std.specs.List.{list_any}
 use Rattle.c_typing.specs.Expressions as spec

@@ -1,3 +1,5 @@
+-- The loop over the derivations of a type:
+-- those that were passed are arrays.
 use Rattle.std.proofs.Common.{◌≡◌, drop}
 use Rattle.c_typing.specs.Expressions as spec
 use Rattle.c_type_expressions.proofs.writing.only_arrays.Given as goal

@@ -1,3 +1,5 @@
+-- The value of an assignment is assignable
+-- where one that stands for it is.
 use Rattle.std.proofs.Common.{◌∙◌, ap, sym}
 use Rattle.c_typing.specs.Types.{unqualified}
 use Rattle.c_typing.specs.Operands.{is_assignable}
