@@ -18,14 +18,14 @@ pub struct Literal {
 }
 
 /// A punctuator and its place.
-#[derive(Clone, Copy, PartialEq, Eq)]
+#[derive(Clone, Copy)]
 pub struct Mark {
     pub punct: Punct,
     pub place: Pos,
 }
 
 /// The levels of binary operators, loosest first (C11 6.5.5 to 6.5.14).
-#[derive(Clone, Copy, PartialEq, Eq)]
+#[derive(Clone, Copy)]
 pub enum Level {
     /// `||`
     Or,

@@ -1,7 +1,7 @@
 use crate::token::Pos;
 
 /// A feature of C11 that the profile leaves out by name.
-#[derive(Clone, Copy, Debug, PartialEq, Eq)]
+#[derive(Clone, Copy, Debug)]
 pub enum Feature {
     /// floating types and constants
     Float,
@@ -44,7 +44,7 @@ pub enum Feature {
 }
 
 /// What the types of a source can have wrong, in the order in which two faults at one place are told.
-#[derive(Clone, Copy, Debug, PartialEq, Eq)]
+#[derive(Clone, Copy, Debug)]
 pub enum FaultKind {
     /// Specifiers name no type of the profile or two, two storage words, or `auto` or `register` at file level.
     BadSpecifier,
@@ -81,7 +81,7 @@ pub enum FaultKind {
 }
 
 /// Why a source is refused, and where.
-#[derive(Clone, Copy, Debug, PartialEq, Eq)]
+#[derive(Clone, Copy, Debug)]
 pub enum Refusal {
     /// The bytes at this place begin no token.
     BadToken(Pos),

@@ -4,7 +4,7 @@ use crate::token::Pos;
 use word_ops::Items;
 
 /// The storage class specifiers (C11 6.7.1).
-#[derive(Clone, Copy, PartialEq, Eq)]
+#[derive(Clone, Copy)]
 pub enum Storage {
     /// `typedef`
     Typedef,
@@ -19,7 +19,7 @@ pub enum Storage {
 }
 
 /// The words that name a type (C11 6.7.2).
-#[derive(Clone, Copy, PartialEq, Eq)]
+#[derive(Clone, Copy)]
 pub enum TypeWord {
     /// `void`
     Void,

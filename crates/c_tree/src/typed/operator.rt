@@ -1,7 +1,7 @@
 use word_ops::{Op, Width};
 
 /// How the value of an object of scalar type is kept (C11 6.2.5p21).
-#[derive(Clone, Copy, PartialEq, Eq, Hash)]
+#[derive(Clone, Copy)]
 pub enum Scalar {
     /// an integer of this width; `_Bool` is kept as `U8`, enumerated types as `Word`
     Integer(Width),
@@ -25,7 +25,7 @@ impl Scalar {
 }
 
 /// How an integer is read: as signed or as unsigned (C11 6.2.5p4, p6).
-#[derive(Clone, Copy, PartialEq, Eq, Hash)]
+#[derive(Clone, Copy, PartialEq, Eq)]
 pub enum Sign {
     /// two's complement
     Signed,
@@ -34,7 +34,7 @@ pub enum Sign {
 }
 
 /// A conversion (C11 6.3). It carries the width that it leaves: what it gives is a value of that width.
-#[derive(Clone, Copy, PartialEq, Eq, Hash)]
+#[derive(Clone, Copy)]
 pub enum Conversion {
     /// to an integer type of this width other than `_Bool` (C11 6.3.1.1, 6.3.1.3). A value of a narrow
     /// type is a word already, so a promotion and every conversion between types of four bytes leave
@@ -47,7 +47,7 @@ pub enum Conversion {
 }
 
 /// The relational and equality operators (C11 6.5.8, 6.5.9).
-#[derive(Clone, Copy, PartialEq, Eq, Hash)]
+#[derive(Clone, Copy)]
 pub enum Relation {
     /// `<`
     Less,
@@ -64,7 +64,7 @@ pub enum Relation {
 }
 
 /// How far an integer moves a pointer (C11 6.5.6p8).
-#[derive(Clone, Copy, PartialEq, Eq, Hash)]
+#[derive(Clone, Copy)]
 pub struct Stride {
     /// the size in bytes of what the pointer points to, at least 1
     pub element: u32,
@@ -74,7 +74,7 @@ pub struct Stride {
 
 /// A binary operator with what it needs to know of the types of its operands, which it takes after
 /// their conversion (C11 6.5.5 to 6.5.12).
-#[derive(Clone, Copy, PartialEq, Eq, Hash)]
+#[derive(Clone, Copy)]
 pub enum Arithmetic {
     /// `*`, `/`, `%`, `+`, `-`, `<<`, `>>`, `&`, `^` and `|` on integers: the operation on words at the converted type
     Word(Op),
@@ -93,7 +93,7 @@ pub enum Arithmetic {
 }
 
 /// How an assignment changes an object of scalar type (C11 6.5.16). What it gives is the new value.
-#[derive(Clone, Copy, PartialEq, Eq, Hash)]
+#[derive(Clone, Copy)]
 pub struct Change {
     /// how the object is kept
     pub scalar: Scalar,
@@ -104,7 +104,7 @@ pub struct Change {
 }
 
 /// Which value `++` or `--` gives.
-#[derive(Clone, Copy, PartialEq, Eq, Hash)]
+#[derive(Clone, Copy)]
 pub enum Given {
     /// that before the change: a postfix operator (C11 6.5.2.4p2)
     Old,
@@ -113,7 +113,7 @@ pub enum Given {
 }
 
 /// `++` or `--` of an object of scalar type: the change is by the number 1.
-#[derive(Clone, Copy, PartialEq, Eq, Hash)]
+#[derive(Clone, Copy)]
 pub struct Increment {
     /// how the object is kept
     pub scalar: Scalar,
@@ -130,7 +130,7 @@ pub struct Increment {
 /// An automatic object is named by its place among those in scope, from 0: the parameters of the
 /// function, and behind them the objects of each block around, outer blocks first. A static object, a
 /// string literal among them, is named by its number in the unit.
-#[derive(Clone, Copy, PartialEq, Eq, Hash)]
+#[derive(Clone, Copy)]
 pub enum Primary {
     /// an integer or character constant, an enumerator, or a `sizeof` (C11 6.5.1p3, 6.4.4, 6.5.3.4)
     Number(u32),
@@ -150,7 +150,7 @@ pub enum Primary {
 ///
 /// An lvalue in memory is its address here, so unary `&` and `*` and the conversion of an array to a
 /// pointer are no steps (C11 6.5.3.2p3, p4, 6.3.2.1p3).
-#[derive(Clone, Copy, PartialEq, Eq, Hash)]
+#[derive(Clone, Copy)]
 pub enum Unary {
     /// reads the object of scalar type that the value is the address of (C11 6.3.2.1p2)
     Load(Scalar),

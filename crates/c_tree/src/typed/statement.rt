@@ -32,7 +32,7 @@ pub enum Initialiser {
 }
 
 /// A label of a switch (C11 6.8.1).
-#[derive(Clone, Copy, PartialEq, Eq, Hash)]
+#[derive(Clone, Copy)]
 pub enum Label {
     /// `case`, with its value converted to the promoted type of the operand (C11 6.8.4.2p5)
     Case(u32),

@@ -1,7 +1,7 @@
 use word_ops::Items;
 
 /// A base type: one that is made of no other (C11 6.2.5).
-#[derive(Clone, Copy, PartialEq, Eq, Hash)]
+#[derive(Clone, Copy, PartialEq, Eq)]
 pub enum Base {
     /// `void` (C11 6.2.5p19)
     Void,
