@@ -20,7 +20,7 @@ use Rattle.c_typing.specs.declared.declarator.Part.TheVariants.{Listing}
 use Rattle.c_typing.specs.declared.declarator.Parameter.{Parameter}
 use Rattle.c_typing.specs.Scopes.{Said, Walk, give, offer, ◌>>=◌, asked, both_asked}
 use Rattle.c_typing.specs.Expressions as rows
-use Rattle.c_typing.specs.Declarators.{TypeNamed, Enumerated, Members, enum_row, struct_row, struct_begun, members_row, tag_place, Declaring, Suffixed, Specified, Parts, Naming, with_specifier, with_type, specifiers_row, first_token}
+use Rattle.c_typing.specs.Declarators.{TypeNamed, Enumerated, Members, enum_row, struct_row, struct_begun, members_row, tag_place, Declaring, Suffixed, Specified, Parts, Specifying, with_type, specifiers_row, first_token}
 use Rattle.c_typing.specs.Parts.{Prefixing, Casting, Operating}
 use Rattle.c_typing.specs.OfTrees.{level_row, binaries_row, suffixes_parts, pointing, is_register, parameter_basis, parameter_type, parameter_named}
 use Rattle.c_typing.specs.Trees.{expr_typing, specifier_typing}
@@ -33,6 +33,7 @@ use Rattle.c_type_expressions.specs.Told.{WalksAs}
 use Rattle.c_type_trees.specs.Calls.{operands, more_arguments, all_arguments}
 use Rattle.c_type_trees.specs.Lists.{all_in_row}
 use Rattle.c_type_trees.specs.Sequences.{parts_if_both}
+use Rattle.c_type_trees.specs.Specifying.{named_row, with_named}
 use Rattle.c_type_trees.proofs.After.{Same, after, after_same, step, done, tail_as, answered, answered_as}
 use Rattle.c_type_trees.proofs.Loops.{gathered_first}
 use Rattle.c_type_trees.proofs.Steps.{arguments_turn}
@@ -80,12 +81,12 @@ level_plain level.Product first rest or and = refl
 
 -- ---- specifiers
 
--- a type that is named, and the specifiers with it
-pub named_walked : {B : Type 0} (parts : B → Parts) (alone : Bool) (p : Parts) (w : Bool → Walk CType) (t : Option CType) (r : Result (Option B) Memory) (c : Around) (old new : Found)
-    → Gave (w alone (fixed c) old.state) old new t → IfOk r (λ q. option_map parts q ≡ Some (with_type p t))
-    → WalksAs parts (with_specifier alone p (Naming w)) c old r new
-named_walked parts alone p w t r c old new g h =
-    answered_as parts (with_specifier alone p (Naming w)) c old new (Some (with_type p t)) r h (step (w alone) (λ t. give (with_type p t)) c old new t g)
+-- a type that is named, behind the specifiers before it
+pub named_walked : {B : Type 0} (parts : B → Parts) (alone : Bool) (p : Parts) (q : Specifying) (t : Option CType) (r : Result (Option B) Memory) (c : Around) (old new : Found)
+    → Gave (named_row alone q (fixed c) old.state) old new t → IfOk r (λ q. option_map parts q ≡ Some (with_type p t))
+    → WalksAs parts (with_named alone p q) c old r new
+named_walked parts alone p q t r c old new g h =
+    answered_as parts (with_named alone p q) c old new (Some (with_type p t)) r h (step (named_row alone q) (λ t. give (with_type p t)) c old new t g)
 
 -- what is given, by the form that is kept of it
 pub gave_some : {A B : Type 0} (f : B → A) (said : Said A) (old new : Found) (o : Option B) (b : B) → o ≡ Some b → Gave said old new (option_map f o) → Gave said old new (Some (f b))

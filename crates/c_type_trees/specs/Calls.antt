@@ -2,13 +2,14 @@
 -- The clauses of `names`, `operands`, `prefixes` and `suffixes` cite them.
 use Rattle.std.specs.Prelude.{Bool, true, false, if◌then◌else◌, List, [], ◌∷◌, ◌++◌, Option, None, map}
 use Rattle.c_tree.specs.declared.token.Pos.{Pos}
+use Rattle.c_tree.specs.declared.refusal.FaultKind.TheVariants as kind
 use Rattle.c_tree.specs.declared.expression.Identifier.{Identifier}
 use Rattle.c_tree.specs.declared.expression.Expr.{Expr}
 use Rattle.c_tree.specs.declared.expression.Literal.{Literal}
 use Rattle.c_tree.specs.declared.expression.Next.{Next}
 use Rattle.c_typing.specs.declared.operand.Operand.{Operand}
-use Rattle.c_typing.specs.Scopes.{Walk, give, unasked, ◌>>=◌, asked}
-use Rattle.c_typing.specs.Expressions.{Argument, string_row, size_row, call_row}
+use Rattle.c_typing.specs.Scopes.{Walk, give, unasked, ◌>>=◌, asked, both_asked, tell}
+use Rattle.c_typing.specs.Expressions.{Argument, string_row, size_row, call_row, index_row}
 use Rattle.c_typing.specs.Declarators.{Expressed, TypeNamed, nowhere}
 use Rattle.c_typing.specs.Parts.{Suffixing, Calling}
 use Rattle.c_typing.specs.OfTrees.{bytes_of_all, first_literal, arguments, suffixes_row, operand_of}
@@ -57,3 +58,11 @@ all_arguments first rest = arguments (expr_typing first ∷ operands rest)
 
 abbrev pub sizeof_row : Pos → TypeNamed → Walk Operand
 sizeof_row at type = type.typed at >>= λ t. asked t (size_row at)
+
+-- what stands in brackets behind an operand
+abbrev pub indexed : Pos → Expressed → Option Operand → Walk Operand
+indexed at i o = i.typed >>= λ i. both_asked o i (index_row at)
+
+-- a call, with arguments, of what is not the name of a function
+abbrev pub called_value : Pos → Expr → List Next → Option Operand → Walk Operand
+called_value at first rest o = all_arguments first rest >>= λ args. asked o (λ o. tell kind.BadCall at)

@@ -5,4 +5,5 @@ pub mod Lists
 pub mod Sequences
 pub mod Calls
 pub mod Operands
+pub mod Specifying
 pub mod Nested

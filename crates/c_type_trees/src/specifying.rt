@@ -9,6 +9,7 @@ ghost use Rattle.c_type_walk.specs.Walks.{Walks};
 ghost use Rattle.c_type_declarators.specs.Specifiers.{parts_of};
 ghost use Rattle.c_type_expressions.specs.Told.{WalksAs};
 ghost use Rattle.c_type_trees.specs.Nested.{WalksTree};
+ghost use Rattle.c_type_trees.specs.Specifying as spec;
 
 use crate::names::{first_specifier, first_token};
 use crate::nested::{Tree, Typed};
@@ -65,35 +66,62 @@ impl<F: Fn(Global, &mut Found, &Around<'_>, u64, Tree<'_>) -> Result<Typed, Memo
             Specifier::Storage(storage, _) => with_storage(parts, *storage),
             Specifier::Const(_) => Ok(with_constant(parts)),
             Specifier::Word(word, _) => with_word(parts, *word),
-            Specifier::StructTag(_, tag) => {
-                let ctype = struct_tag_row(self.alloc, found, around, tag, alone)?;
-                with_type(parts, ctype)
-            }
+            Specifier::StructTag(_, _) => self.typed(found, around, alone, parts, tree),
+            Specifier::Struct { .. } => self.typed(found, around, alone, parts, tree),
+            Specifier::EnumTag(_, _) => self.typed(found, around, alone, parts, tree),
+            Specifier::Enum { .. } => self.typed(found, around, alone, parts, tree),
+            Specifier::TypedefName(_) => self.typed(found, around, alone, parts, tree),
+        }
+    }
+
+    /// The type that a specifier names, behind the specifiers before it.
+    fn typed(
+        &self,
+        found: &mut Found,
+        around: &Around<'_>,
+        alone: bool,
+        parts: SpecifierParts,
+        tree: &Specifier,
+    ) -> Result<Option<SpecifierParts>, Memory>
+        requires { Nests WalksTree self.now.more (F.pre self.now.inside) (F.post self.now.inside) }
+        ensures { WalksAs parts_of (spec.with_named alone (parts_of parts) (typing.specifier_typing tree.now).specifying) around.now found.old result found.new }
+    {
+        let Ok(ctype) = self.named(found, around, alone, tree) else {
+            drop(parts);
+            return Err(Memory);
+        };
+        with_type(parts, ctype)
+    }
+
+    /// The type that a specifier names (C11 6.7.2).
+    fn named(
+        &self,
+        found: &mut Found,
+        around: &Around<'_>,
+        alone: bool,
+        tree: &Specifier,
+    ) -> Result<Option<CType>, Memory>
+        requires { Nests WalksTree self.now.more (F.pre self.now.inside) (F.post self.now.inside) }
+        ensures { Walks (spec.named_row alone (typing.specifier_typing tree.now).specifying) around.now found.old result found.new }
+    {
+        match tree {
+            Specifier::Storage(_, _) => Ok(None),
+            Specifier::Const(_) => Ok(None),
+            Specifier::Word(_, _) => Ok(None),
+            Specifier::StructTag(_, tag) => struct_tag_row(self.alloc, found, around, tag, alone),
             Specifier::Struct {
                 word,
                 tag,
                 members: list,
                 ..
-            } => {
-                let ctype = self.structure(found, around, *word, tag, list.as_slice())?;
-                with_type(parts, ctype)
-            }
-            Specifier::EnumTag(_, tag) => {
-                let ctype = enum_tag_row(self.alloc, found, around, tag)?;
-                with_type(parts, ctype)
-            }
+            } => self.structure(found, around, *word, tag, list.as_slice()),
+            Specifier::EnumTag(_, tag) => enum_tag_row(self.alloc, found, around, tag),
             Specifier::Enum {
                 tag,
                 enumerators,
                 ..
-            } => {
-                let ctype = self.enumeration(found, around, tag, enumerators.as_slice())?;
-                with_type(parts, ctype)
-            }
-            Specifier::TypedefName(name) => {
-                let ctype = typedef_named(self.alloc, found, around, name)?;
-                with_type(parts, ctype)
-            }
+            } => self.enumeration(found, around, tag, enumerators.as_slice()),
+            Specifier::TypedefName(name) => typedef_named(self.alloc, found, around, name),
         }
     }
 

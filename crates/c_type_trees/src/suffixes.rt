@@ -16,7 +16,7 @@ use crate::operands::{
     arrow_if_any, bad_call_if_any, call_if_any, increment_if_any, index_if_both, member_if_any,
 };
 use crate::walker::Walker;
-use c_tree::{Expr, Identifier, Next, Punct, Suffix};
+use c_tree::{Expr, Identifier, Next, Pos, Punct, Suffix};
 use c_type_expressions::Argument;
 use c_type_walk::{Around, Found};
 use c_typing::Operand;
@@ -156,14 +156,10 @@ impl<F: Fn(Global, &mut Found, &Around<'_>, u64, Tree<'_>) -> Result<Typed, Memo
     {
         let alloc = self.alloc;
         match tree {
-            Suffix::Index(place, inner, _) => {
-                let index = self.expr(found, around, inner)?;
-                index_if_both(alloc, found, around, *place, operand, index)
-            }
+            Suffix::Index(place, inner, _) => self.indexed(found, around, *place, inner, operand),
             Suffix::Call(place, _) => bad_call_if_any(found, around, *place, operand),
-            Suffix::CallWith(place, _, _, _) => {
-                self.arguments(found, around, tree)?;
-                bad_call_if_any(found, around, *place, operand)
+            Suffix::CallWith(place, first, rest, _) => {
+                self.called_value(found, around, *place, first, rest.as_slice(), operand)
             }
             Suffix::Member(place, name) => {
                 member_if_any(alloc, found, around, name, *place, operand)
@@ -176,5 +172,45 @@ impl<F: Fn(Global, &mut Found, &Around<'_>, u64, Tree<'_>) -> Result<Typed, Memo
                 increment_if_any(alloc, found, around, Punct::Decrement, *place, operand)
             }
         }
+    }
+
+    /// `a[i]` (C11 6.5.2.1).
+    fn indexed(
+        &self,
+        found: &mut Found,
+        around: &Around<'_>,
+        place: Pos,
+        inner: &Expr,
+        operand: Option<Operand>,
+    ) -> Result<Option<Operand>, Memory>
+        requires { Nests WalksTree self.now.more (F.pre self.now.inside) (F.post self.now.inside) }
+        ensures { Walks (calls.indexed place (typing.expr_typing inner.now) operand) around.now found.old result found.new }
+    {
+        let Ok(index) = self.expr(found, around, inner) else {
+            drop(operand);
+            return Err(Memory);
+        };
+        index_if_both(self.alloc, found, around, place, operand, index)
+    }
+
+    /// A call, with arguments, of what is not the name of a function (C11 6.5.2.2p1).
+    fn called_value(
+        &self,
+        found: &mut Found,
+        around: &Around<'_>,
+        place: Pos,
+        first: &Expr,
+        rest: &[Next],
+        operand: Option<Operand>,
+    ) -> Result<Option<Operand>, Memory>
+        requires { Nests WalksTree self.now.more (F.pre self.now.inside) (F.post self.now.inside) }
+        ensures { Walks (calls.called_value place first.now rest.now operand) around.now found.old result found.new }
+    {
+        let Ok(arguments) = self.all_arguments(found, around, first, rest) else {
+            drop(operand);
+            return Err(Memory);
+        };
+        drop(arguments);
+        bad_call_if_any(found, around, place, operand)
     }
 }

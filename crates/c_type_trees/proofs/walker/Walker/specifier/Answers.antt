@@ -1,11 +1,10 @@
 -- `specifier` of src/specifying.rt: what the check leaves open of its proof.
 -- A specifier more (C11 6.7).
-use Rattle.std.proofs.Common.{map, refl}
-use Rattle.c_typing.specs.Declarators.{struct_tag_row, enum_tag_row, struct_row, enum_row, typedef_name_row}
-use Rattle.c_typing.specs.Trees.{member_typing, enumerator_typing, specifier_typing-Storage, specifier_typing-Const, specifier_typing-Word, specifier_typing-StructTag, specifier_typing-Struct, specifier_typing-EnumTag, specifier_typing-Enum, specifier_typing-TypedefName}
+use Rattle.std.proofs.Common.{refl}
+use Rattle.c_typing.specs.Trees.{specifier_typing-Storage, specifier_typing-Const, specifier_typing-Word, specifier_typing-StructTag, specifier_typing-Struct, specifier_typing-EnumTag, specifier_typing-Enum, specifier_typing-TypedefName}
 use Rattle.c_type_declarators.specs.Specifiers.{parts_of}
 use Rattle.c_type_trees.proofs.After.{answered_as}
-use Rattle.c_type_trees.proofs.Nodes.{offered, named_walked}
+use Rattle.c_type_trees.proofs.Nodes.{offered}
 use Rattle.c_type_trees.proofs.walker.Walker.specifier.Goals as goal
 
 pub returns-in-Storage : goal.returns-in-Storage
@@ -20,22 +19,22 @@ pub returns-in-Word : goal.returns-in-Word
 returns-in-Word g c =
     rw (c.in-Word.is, specifier_typing-Word) (answered_as parts_of _ c.args.around.now _ _ _ _ c.with_word.ensures refl)
 
-pub returns-in_ok-ctype-in-StructTag : goal.returns-in_ok-ctype-in-StructTag
-returns-in_ok-ctype-in-StructTag g c =
-    rw (c.in-StructTag.is, specifier_typing-StructTag) (named_walked parts_of c.args.alone (parts_of c.args.parts) (struct_tag_row c.in-StructTag.tag) _ _ c.args.around.now _ _ c.in_ok-ctype-in-StructTag.ensures c.with_type.ensures)
+pub returns-in-StructTag : goal.returns-in-StructTag
+returns-in-StructTag g c =
+    rw (c.in-StructTag.is, specifier_typing-StructTag) (rw (c.in-StructTag.is, specifier_typing-StructTag) at c.typed.ensures)
 
-pub returns-in_ok-ctype-in-Struct : goal.returns-in_ok-ctype-in-Struct
-returns-in_ok-ctype-in-Struct g c =
-    rw (c.in-Struct.is, specifier_typing-Struct) (named_walked parts_of c.args.alone (parts_of c.args.parts) (λ alone. struct_row c.in-Struct.word c.in-Struct.tag (map member_typing c.in-Struct.list)) _ _ c.args.around.now _ _ (rw c.as_slice.ensures at c.in_ok-ctype-in-Struct.ensures) c.with_type-in-Struct.ensures)
+pub returns-in-Struct : goal.returns-in-Struct
+returns-in-Struct g c =
+    rw (c.in-Struct.is, specifier_typing-Struct) (rw (c.in-Struct.is, specifier_typing-Struct) at c.typed-in-Struct.ensures)
 
-pub returns-in_ok-ctype-in-EnumTag : goal.returns-in_ok-ctype-in-EnumTag
-returns-in_ok-ctype-in-EnumTag g c =
-    rw (c.in-EnumTag.is, specifier_typing-EnumTag) (named_walked parts_of c.args.alone (parts_of c.args.parts) (λ alone. enum_tag_row c.in-EnumTag.tag) _ _ c.args.around.now _ _ c.in_ok-ctype-in-EnumTag.ensures c.with_type-in-EnumTag.ensures)
+pub returns-in-EnumTag : goal.returns-in-EnumTag
+returns-in-EnumTag g c =
+    rw (c.in-EnumTag.is, specifier_typing-EnumTag) (rw (c.in-EnumTag.is, specifier_typing-EnumTag) at c.typed-in-EnumTag.ensures)
 
-pub returns-in_ok-ctype-in-Enum : goal.returns-in_ok-ctype-in-Enum
-returns-in_ok-ctype-in-Enum g c =
-    rw (c.in-Enum.is, specifier_typing-Enum) (named_walked parts_of c.args.alone (parts_of c.args.parts) (λ alone. enum_row c.in-Enum.tag (map enumerator_typing c.in-Enum.enumerators)) _ _ c.args.around.now _ _ (rw c.as_slice-in-Enum.ensures at c.in_ok-ctype-in-Enum.ensures) c.with_type-in-Enum.ensures)
+pub returns-in-Enum : goal.returns-in-Enum
+returns-in-Enum g c =
+    rw (c.in-Enum.is, specifier_typing-Enum) (rw (c.in-Enum.is, specifier_typing-Enum) at c.typed-in-Enum.ensures)
 
-pub returns-in_ok-ctype-in-TypedefName : goal.returns-in_ok-ctype-in-TypedefName
-returns-in_ok-ctype-in-TypedefName g c =
-    rw (c.in-TypedefName.is, specifier_typing-TypedefName) (named_walked parts_of c.args.alone (parts_of c.args.parts) (λ alone. typedef_name_row c.in-TypedefName.name) _ _ c.args.around.now _ _ c.in_ok-ctype-in-TypedefName.ensures c.with_type-in-TypedefName.ensures)
+pub returns-in-TypedefName : goal.returns-in-TypedefName
+returns-in-TypedefName g c =
+    rw (c.in-TypedefName.is, specifier_typing-TypedefName) (rw (c.in-TypedefName.is, specifier_typing-TypedefName) at c.typed-in-TypedefName.ensures)
