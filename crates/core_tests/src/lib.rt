@@ -5,11 +5,11 @@
 #![tactic(auto)]
 
 #[cfg(test)]
-mod core;
-#[cfg(test)]
 mod facts;
 #[cfg(test)]
 mod narrower;
+#[cfg(test)]
+mod programs;
 #[cfg(test)]
 mod terms;
 #[cfg(test)]
