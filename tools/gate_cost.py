@@ -28,12 +28,12 @@ def text_of(path):
 
 
 def stat_of(pid):
-    """The parent of a process, its own processor time and that of the children it has waited for, in seconds."""
+    """Of a process its parent, its own processor time and that of the children it has waited for, in seconds, and its start."""
     found = text_of(f"/proc/{pid}/stat").rpartition(")")[2].split()
-    if len(found) < 15:
+    if len(found) < 20:
         return None
     own, waited = (sum(int(it) for it in found[at : at + 2]) / TICKS for at in (11, 13))
-    return int(found[1]), own, waited
+    return int(found[1]), own, waited, found[19]
 
 
 def job_of(pid):
@@ -62,13 +62,15 @@ class Watch:
         found = {int(it): stat_of(it) for it in os.listdir("/proc") if it.isdigit()}
         found = {pid: it for pid, it in found.items() if it}
         if self.top in found:
-            self.all = max(self.all, sum(found[self.top][1:]))
-        for pid, (_, own, waited) in found.items():
+            self.all = max(self.all, sum(found[self.top][1:3]))
+        for pid, (_, own, _, start) in found.items():
             if not self.is_below(pid, found):
                 continue
-            if pid not in self.jobs:
-                self.jobs[pid] = job_of(pid) or self.job_above(pid, found)
-            self.used[pid] = own
+            # (a number may be given to another process once this one has ended)
+            name = pid, start
+            if name not in self.jobs:
+                self.jobs[name] = job_of(pid) or self.job_above(pid, found)
+            self.used[name] = own
 
     def is_below(self, pid, found):
         seen = set()
@@ -80,13 +82,13 @@ class Watch:
     def job_above(self, pid, found):
         """The job of the nearest process above that has one: a prover may start others."""
         parent = found[pid][0]
-        return self.jobs.get(parent) or job_of(parent)
+        return job_of(parent) if parent in found else None
 
     def table(self):
         """For each crate its minutes by kind."""
         rows = {}
-        for pid, seconds in self.used.items():
-            crate, kind = self.jobs.get(pid) or ("(rt itself)", "proof")
+        for name, seconds in self.used.items():
+            crate, kind = self.jobs.get(name) or ("(rt itself)", "proof")
             rows.setdefault(crate, dict.fromkeys(KINDS, 0.0))[kind] += seconds / 60
         return rows
 
