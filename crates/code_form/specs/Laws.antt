@@ -1,0 +1,5 @@
+-- Laws of the definitions beside this file, by subject.
+-- No contract cites these files: they hold proofs.
+pub mod Patterns
+pub mod Constants
+pub mod Examples
