@@ -1,0 +1,3 @@
+-- Closed audits, of images without records and with records.
+pub mod Plain
+pub mod Recorded

@@ -1,0 +1,3 @@
+-- Laws of the definitions beside this file.
+-- No contract cites these files: they hold proofs.
+pub mod Erasure
