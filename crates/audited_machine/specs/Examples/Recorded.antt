@@ -1,4 +1,5 @@
--- A closed audit with records of each kind, and edits of its records by which each clause is false. Made by tools/example.py.
+-- A closed audit of an image with nearly every kind of record, and edits of these by which each clause is false. The text was
+-- assembled by hand.
 use Rattle.std.specs.Prelude.{◌≡◌, ℕ, ◌-◌, ◌^◌, pos, negsuc, true, List, [], ◌∷◌, Option, Some, None}
 use Rattle.word_ops.specs.declared.operation.Op.TheVariants as op
 use Rattle.word_ops.specs.declared.operation.Width.TheVariants as width
@@ -67,8 +68,37 @@ edge f b p a = records.Edge (record { from = f; to = b; phi = t p; argument = t 
 abbrev pub none : ℕ
 none = 2 ^ 32 - 1
 
+-- int f(int a) { return a + (a <= a); }
+-- int main(void) { int x = 3; getchar(); int i = f(x); while (putchar(i), i) i--; return i; }
 abbrev pub text : List ℕ
-text = 0x00010137 ∷ 0x10010113 ∷ 0x00100193 ∷ 0x00c000ef ∷ 0x00300893 ∷ 0x00000073 ∷ 0xfe010113 ∷ 0x00112623 ∷ 0x00300293 ∷ 0x00512823 ∷ 0x01012403 ∷ 0x00100893 ∷ 0x00000073 ∷ 0x00050493 ∷ 0x00812023 ∷ 0x00019463 ∷ 0x0780006f ∷ 0xfff18193 ∷ 0x048000ef ∷ 0x00118193 ∷ 0x00050593 ∷ 0x00058613 ∷ 0x0040006f ∷ 0x00060513 ∷ 0x00200893 ∷ 0x00000073 ∷ 0x00163693 ∷ 0x00069a63 ∷ 0x0040006f ∷ 0xfff60713 ∷ 0x00070613 ∷ 0xfe1ff06f ∷ 0x00060513 ∷ 0x00c12083 ∷ 0x02010113 ∷ 0x00008067 ∷ 0xff010113 ∷ 0x00112623 ∷ 0x01012403 ∷ 0x00842f33 ∷ 0x001f4493 ∷ 0x009406b3 ∷ 0x00068513 ∷ 0x00c12083 ∷ 0x01010113 ∷ 0x00008067 ∷ 0x00400893 ∷ 0x00000073 ∷ []
+text =
+    -- the start, at 0x10000: the stack ends at 0x10100, one call may be nested, main is called, and its value is the status
+    0x00010137 ∷ 0x10010113 ∷ 0x00100193 ∷ 0x00c000ef ∷ 0x00300893 ∷ 0x00000073
+    -- main, at 0x10018: addi x2, x2, -32; sw x1, 12(x2)
+    ∷ 0xfe010113 ∷ 0x00112623
+    -- block 0, at 0x10020: li x5, 3; sw x5, 16(x2); lw x8, 16(x2)
+    ∷ 0x00300293 ∷ 0x00512823 ∷ 0x01012403
+    -- a byte is taken: li x17, 1; ecall; mv x9, x10
+    ∷ 0x00100893 ∷ 0x00000073 ∷ 0x00050493
+    -- the call of function 1, at 0x10038: sw x8, 0(x2); bnez x3, over the jump to 0x100b8; addi x3, x3, -1; jal x1, 0x10090
+    ∷ 0x00812023 ∷ 0x00019463 ∷ 0x0780006f ∷ 0xfff18193 ∷ 0x048000ef
+    -- addi x3, x3, 1; mv x11, x10; mv x12, x11; j 0x1005c
+    ∷ 0x00118193 ∷ 0x00050593 ∷ 0x00058613 ∷ 0x0040006f
+    -- block 1, at 0x1005c: mv x10, x12; li x17, 2; ecall; seqz x13, x12; bnez x13, 0x10080; j 0x10074
+    ∷ 0x00060513 ∷ 0x00200893 ∷ 0x00000073 ∷ 0x00163693 ∷ 0x00069a63 ∷ 0x0040006f
+    -- block 2, at 0x10074: addi x14, x12, -1; mv x12, x14; j 0x1005c
+    ∷ 0xfff60713 ∷ 0x00070613 ∷ 0xfe1ff06f
+    -- block 3, at 0x10080: mv x10, x12; lw x1, 12(x2); addi x2, x2, 32; ret
+    ∷ 0x00060513 ∷ 0x00c12083 ∷ 0x02010113 ∷ 0x00008067
+    -- function 1, at 0x10090: addi x2, x2, -16; sw x1, 12(x2)
+    ∷ 0xff010113 ∷ 0x00112623
+    -- its block 0: lw x8, 16(x2); slt x30, x8, x8; xori x9, x30, 1; add x13, x8, x9
+    ∷ 0x01012403 ∷ 0x00842f33 ∷ 0x001f4493 ∷ 0x009406b3
+    -- mv x10, x13; lw x1, 12(x2); addi x2, x2, 16; ret
+    ∷ 0x00068513 ∷ 0x00c12083 ∷ 0x01010113 ∷ 0x00008067
+    -- the end of runs that nest too deep, at 0x100b8: li x17, 4; ecall
+    ∷ 0x00400893 ∷ 0x00000073
+    ∷ []
 
 abbrev pub records_of : Told → List Record
 records_of k =
