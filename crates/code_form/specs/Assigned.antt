@@ -1,6 +1,6 @@
 -- When the instructions of a function do, over registers and slots, what its graph does over terms: at each place it is told by
 -- names what registers and slots hold, each pattern finds the words of its operands, and each edge brings what its target was told.
-use Rattle.std.specs.Prelude.{◌≡◌, ◌≢◌, ℕ, zero, suc, ◌+◌, ◌*◌, ◌%◌, ◌^◌, ◌==◌, ◌≤◌, Bool, true, false, ◌&&◌, ◌||◌, IsTrue, if◌then◌else◌, ℤ, slice_index, List, [], ◌∷◌, ◌++◌, length, Option, Some, None}
+use Rattle.std.specs.Prelude.{◌≡◌, ◌≢◌, ℕ, zero, suc, ◌+◌, ◌*◌, ◌%◌, ◌^◌, ◌==◌, ◌≤◌, ◌⊎◌, Bool, true, false, ◌&&◌, ◌||◌, IsTrue, if◌then◌else◌, ℤ, slice_index, List, [], ◌∷◌, ◌++◌, length, Option, Some, None}
 use Rattle.word_ops.specs.declared.operation.Op.{Op}
 use Rattle.word_ops.specs.declared.operation.Width.{Width}
 use Rattle.word_ops.specs.Stack.{bytes_of_objects}
@@ -21,7 +21,7 @@ use Rattle.code_form.specs.declared.code.Piece.{Piece}
 use Rattle.code_form.specs.declared.code.Assigned.{Assigned}
 use Rattle.code_form.specs.Registers.{is_scratch, is_writable, word_of}
 use Rattle.code_form.specs.Patterns.{Second, Register, Immediate, Zero, pattern, ignores_second, one, two}
-use Rattle.code_form.specs.Instructions.{load, store, environment, jump_to, branch_to, nested_call, return_to_link, give_frame_back}
+use Rattle.code_form.specs.Instructions.{load, store, environment, jump_to, branch_to, nested_call, return_to_link, add_to_stack, add_register_to_stack}
 use Rattle.code_form.specs.Frames.{link_slot}
 use Rattle.code_form.specs.Contents.{Held, Unknown, Word, Frame, Value, Argument, Link, Contents, with_held, Setting, is_word_of, held_in, held_by, behind_all, behind_call}
 
@@ -95,12 +95,11 @@ pub record DoesParam (s : Setting) (c : Contents) (p : Piece) (t : Term) (i : �
   pub moved : before (s.places t.0) ≡ Argument i
   pub now : after ≡ with_held before (s.places t.0) (Value t.0)
 
--- a term that comes with an effect, an edge or a call stands in its place, and has no words
+-- a term that comes with an effect, an edge or a call stands in its place, where glue may bring it, and has no words of its own
 pub record IsThere (s : Setting) (c : Contents) (p : Piece) (t : Term) (after : Contents) : Type 0 where
-  pub words : p.words ≡ []
-  pub start : p.start ≡ 0
-  pub there : c (s.places t.0) ≡ Value t.0
-  pub same : after ≡ c
+  pub before : Contents
+  pub framed : IsFramed s c p [] before before after
+  pub there : before (s.places t.0) ≡ Value t.0
 
 -- each argument stands where the function that is called looks for it
 abbrev pub are_passed : Setting → Contents → (position : ℕ) → List Term → Bool
@@ -231,15 +230,21 @@ abbrev pub is_result : Setting → Option Term → Held → Bool
 is_result s None h = is_zero h
 is_result s (Some t) h = is_word_of s t.0 h
 
--- the result and the return address are in their registers, and the frame is given back
+-- an instruction gives a frame of so many bytes back: it adds them to the stack pointer, as an immediate or from a register
+abbrev pub GivesBack : Contents → (frame : ℕ) → Loose → Type 0
+GivesBack c n i = (i ≡ add_to_stack n) ⊎ ((r : ℕ) × (i ≡ add_register_to_stack r) × (held_in c r ≡ Word n))
+
+-- the result and the return address are in their registers, the frame is given back, and the jump is the end's own word
 pub record DoesReturn (s : Setting) (c : Contents) (p : Piece) (t : Option Term) : Type 0 where
-  pub first : List Loose
   pub before : Contents
-  pub words : p.words ≡ first ++ (give_frame_back s.frame ++ one return_to_link)
-  pub start : p.start ≡ length first + length (give_frame_back s.frame)
+  pub raise : Loose
+  pub first : List Loose
+  pub words : p.words ≡ first ++ two raise return_to_link
+  pub start : p.start ≡ length first + 1
   pub to_own : behind_all s c first ≡ Some before
   pub result' : IsTrue (is_result s t (held_in before 10))
   pub link : IsTrue (is_link (held_in before 1))
+  pub frame : GivesBack before s.frame raise
 
 -- where the program has ended before there is a jump of the block to itself
 pub record DoesStop (s : Setting) (c : Contents) (p : Piece) (block : ℕ) : Type 0 where

@@ -94,17 +94,17 @@ constant_words r n = upper_into r n ∷ on_immediate rows.Addi (Fixed r) (Fixed 
 abbrev pub far : ℕ
 far = 31
 
--- a word is added to the stack pointer
-abbrev pub add_to_stack : ℕ → List Loose
-add_to_stack n = constant_words far n ++ one (on_registers rows.Add stack_pointer stack_pointer (Fixed far))
+-- so many bytes are added to the stack pointer, or as many as a register has
+abbrev pub add_to_stack : ℕ → Loose
+add_to_stack n = on_immediate rows.Addi stack_pointer stack_pointer (pos n)
 
--- a frame of so many bytes is taken below that of the caller, and is given back
+abbrev pub add_register_to_stack : (register : ℕ) → Loose
+add_register_to_stack r = on_registers rows.Add stack_pointer stack_pointer (Fixed r)
+
+-- a frame of so many bytes is taken below that of the caller
 abbrev pub take_frame : (bytes : ℕ) → List Loose
 take_frame n =
-    if nat_lt n (2 ^ 11) then one (on_immediate rows.Addi stack_pointer stack_pointer (pos 0 -ℤ pos n)) else add_to_stack (2 ^ 32 - n)
-
-abbrev pub give_frame_back : (bytes : ℕ) → List Loose
-give_frame_back n = if nat_lt n (2 ^ 11) then one (on_immediate rows.Addi stack_pointer stack_pointer (pos n)) else add_to_stack n
+    if nat_lt n (2 ^ 11) then one (on_immediate rows.Addi stack_pointer stack_pointer (pos 0 -ℤ pos n)) else constant_words far (2 ^ 32 - n) ++ one (add_register_to_stack far)
 
 -- a register is kept at an offset from the stack pointer
 abbrev pub keep_register : (register offset : ℕ) → List Loose

@@ -1,13 +1,13 @@
 -- The examples do what their graphs do: what is held at each place, and each piece by itself.
 -- No contract cites this file: it holds proofs.
-use Rattle.std.proofs.Common.{◌≡◌, ◌≢◌, refl, arith, ℕ, List, [], ◌∷◌, Some}
+use Rattle.std.proofs.Common.{◌≡◌, ◌≢◌, refl, inl, arith, ℕ, List, [], ◌∷◌, Some}
 use Rattle.std.specs.Prelude.{pos}
 use Rattle.word_ops.specs.declared.operation.Op.TheVariants as op
 use Rattle.term_form.specs.Examples.{t}
 use Rattle.code_form.specs.declared.code.Operand.TheVariants.{Of}
 use Rattle.code_form.specs.declared.code.Loose.{Loose}
 use Rattle.code_form.specs.Patterns.{Immediate}
-use Rattle.code_form.specs.Instructions.{set}
+use Rattle.code_form.specs.Instructions.{set, add_to_stack}
 use Rattle.code_form.specs.Contents.{Contents, Unknown, Word, Value, Argument, Link, with_held, Setting}
 use Rattle.code_form.specs.Selected.{IsOperation, IsSelected}
 use Rattle.code_form.specs.Assigned.{IsAssigned, DoesParam, DoesOperation, DoesReturn, DoesJump, DoesBranch, IsThere, contents_of, first_known, setting_of}
@@ -49,7 +49,7 @@ adds-five : DoesOperation sum_setting taken adds (t 1) op.Adds (t 0) (t 2) kept
 adds-five = record { d = 7; a = 5; scratch = 30; second = Immediate (pos 5); before = fetched; writable = refl; free = refl; framed = record { first = get 5 (pos 0) ∷ []; last = put 7 (pos 4) ∷ []; words = refl; start = refl; to_own = refl; from_own = refl }; has_form = λ e. not_empty _ _ e; has_first = refl; has_second = refl }
 
 returns-sum : DoesReturn sum_setting kept returns (Some (t 1))
-returns-sum = record { first = get 10 (pos 4) ∷ get 1 (pos 12) ∷ []; before = leaving; words = refl; start = refl; to_own = refl; result' = refl; link = refl }
+returns-sum = record { first = get 10 (pos 4) ∷ get 1 (pos 12) ∷ []; before = leaving; raise = add_to_stack 16; frame = inl refl; words = refl; start = refl; to_own = refl; result' = refl; link = refl }
 
 pub slots-assigned : IsAssigned sum_of_slots
 slots-assigned = record { entries = λ k. first_known sum_setting; first = refl; blocks = ((refl, (taken, takes-param, (refl, (kept, adds-five, (refl, returns-sum))))), tt); room = omega arith; step = refl }
@@ -82,7 +82,7 @@ sets-phis : DoesJump setting entries begin sets into_loop 1
 sets-phis = record { before = set_up; ends = record { first = set 8 (pos 1) ∷ set 9 (pos 2) ∷ set 11 (pos 3) ∷ []; words = refl; start = refl; to_own = refl }; brings = refl }
 
 phi-there : (n k : ℕ) → head (setting.places k) ≡ Value k → IsThere setting head (piece n 0 []) (t k) head
-phi-there n k e = record { words = refl; start = refl; there = e; same = refl }
+phi-there n k e = record { before = head; framed = record { first = []; last = []; words = refl; start = refl; to_own = refl; from_own = refl }; there = e }
 
 branches-by-count : DoesBranch setting entries head branches [] (t 6) 2 3
 branches-by-count = record { a = 11; before = head; ends = record { first = []; words = refl; start = refl; to_own = refl }; none = refl; has_term = refl; brings_first = refl; brings_second = refl }
@@ -94,7 +94,7 @@ swaps-phis : DoesJump setting entries counted_down swaps exchange 1
 swaps-phis = record { before = moved; ends = record { first = moves; words = refl; start = refl; to_own = refl }; brings = refl }
 
 gives-phi-back : DoesReturn setting head gives_back (Some (t 4))
-gives-phi-back = record { first = copy 10 8 ∷ get 1 (pos 4) ∷ []; before = with_held (with_held head 10 (Value 4)) 1 Link; words = refl; start = refl; to_own = refl; result' = refl; link = refl }
+gives-phi-back = record { first = copy 10 8 ∷ get 1 (pos 4) ∷ []; before = with_held (with_held head 10 (Value 4)) 1 Link; raise = add_to_stack 8; frame = inl refl; words = refl; start = refl; to_own = refl; result' = refl; link = refl }
 
 pub swap-assigned : IsAssigned swapped
 swap-assigned = record {
