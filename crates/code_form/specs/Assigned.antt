@@ -23,7 +23,7 @@ use Rattle.code_form.specs.Registers.{is_scratch, is_writable, word_of}
 use Rattle.code_form.specs.Patterns.{Second, Register, Immediate, Zero, pattern, ignores_second, one, two}
 use Rattle.code_form.specs.Instructions.{load, store, environment, jump_to, branch_to, nested_call, return_to_link, add_to_stack, add_register_to_stack}
 use Rattle.code_form.specs.Frames.{link_slot}
-use Rattle.code_form.specs.Contents.{Held, Unknown, Word, Frame, Value, Argument, Link, Contents, with_held, Setting, is_word_of, held_in, held_by, behind_all, behind_call}
+use Rattle.code_form.specs.Contents.{Held, Unknown, Word, Frame, Value, Argument, Link, Contents, with_held, Setting, is_word_of, held_in, held_by, behind_all, behind_jump, behind_call}
 
 -- ---- operands
 
@@ -194,8 +194,9 @@ abbrev pub brings_all : Setting → Contents → List EdgeArgument → (to : ℕ
 brings_all s c edges to [] = true
 brings_all s c edges to (k ∷ ks) = brings s c edges to k.place k.held && brings_all s c edges to ks
 
+-- a jump from here brings all that its target is told
 abbrev pub Brings : Setting → Contents → List EdgeArgument → (to : ℕ) → Entries → Type 0
-Brings s c edges to entries = IsTrue (brings_all s c edges to (entries to))
+Brings s c edges to entries = IsTrue (brings_all s (behind_jump c) edges to (entries to))
 
 -- ---- ends
 

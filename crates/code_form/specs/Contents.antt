@@ -13,6 +13,7 @@ use Rattle.code_form.specs.declared.code.Operand.{Operand}
 use Rattle.code_form.specs.declared.code.Operand.TheVariants.{Of, Fixed}
 use Rattle.code_form.specs.declared.code.Loose.{Loose}
 use Rattle.code_form.specs.Registers.{is_row, is_writable, is_fixed, word_of}
+use Rattle.code_form.specs.Instructions.{far}
 use Rattle.code_form.specs.Frames.{slot_bytes, object_offset}
 
 -- the name of a word
@@ -154,6 +155,10 @@ behind_glue s c i =
 abbrev pub behind_all : Setting → Contents → List Loose → Option Contents
 behind_all s c [] = Some c
 behind_all s c (i ∷ is) = option_and_then (λ d. behind_all s d is) (behind_glue s c i)
+
+-- behind a jump: one that is far goes through a scratch register
+abbrev pub behind_jump : Contents → Contents
+behind_jump c = with_held c far Unknown
 
 -- behind a call: what slots hold is as before, and of the registers x10 alone is known
 abbrev pub behind_call : Contents → Held → Contents

@@ -24,7 +24,8 @@ use Rattle.code_form.specs.declared.code.Assigned.{Assigned}
 use Rattle.code_form.specs.Registers.{stack_pointer}
 use Rattle.code_form.specs.Patterns.{on_immediate}
 use Rattle.code_form.specs.Instructions.{load, store, set, move_to, jump_to, branch_to, return_to_link}
-use Rattle.code_form.specs.Contents.{Held, Unknown, Value, Link, Contents, with_held, behind_all}
+use Rattle.code_form.specs.Contents.{Held, Unknown, Value, Link, Contents, with_held, behind_all, behind_jump}
+use Rattle.code_form.specs.Emitted.{IsEmittedForm}
 use Rattle.code_form.specs.Selected.{IsSelected}
 use Rattle.code_form.specs.Assigned.{Known, contents_of, setting_of, brings_all, IsAssigned}
 
@@ -59,6 +60,9 @@ sum_block = block None (Define (define 0 (nodes.Root (roots.Param 0))) ∷ Defin
 
 abbrev pub sum_graph : Graph
 sum_graph = record { parameters = 1; value = true; locals = []; ready = define 2 (nodes.Konst 5) ∷ []; blocks = sum_block ∷ [] }
+
+abbrev pub HasForm : Type 0
+HasForm = IsEmittedForm (sum_graph ∷ []) 0 sum_graph 3
 
 abbrev pub takes : Piece
 takes = piece 0 2 (get 5 (pos 16) ∷ put 5 (pos 0) ∷ [])
@@ -170,7 +174,7 @@ wrong_moves = copy 8 9 ∷ copy 9 8 ∷ copy 11 12 ∷ []
 
 -- whether the edge that leads back brings the block its phis behind these moves
 abbrev pub exchanges : List Loose → Option Bool
-exchanges ms = option_map (λ c. brings_all (setting_of swapped) c exchange 1 phis_known) (behind_all (setting_of swapped) counted_down ms)
+exchanges ms = option_map (λ c. brings_all (setting_of swapped) (behind_jump c) exchange 1 phis_known) (behind_all (setting_of swapped) counted_down ms)
 
 abbrev pub LosesSwap : Type 0
 LosesSwap = (exchanges moves ≡ Some true) × (exchanges wrong_moves ≡ Some false)

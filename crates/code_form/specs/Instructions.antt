@@ -90,7 +90,7 @@ constant_words r n = upper_into r n ∷ on_immediate rows.Addi (Fixed r) (Fixed 
 
 -- ---- frames
 
--- the scratch register of numbers that no immediate holds
+-- the scratch register of numbers that no immediate holds, and of far jumps
 abbrev pub far : ℕ
 far = 31
 

@@ -2,4 +2,5 @@
 -- No contract cites these files: they hold proofs.
 pub mod Patterns
 pub mod Constants
+pub mod Emitted
 pub mod Examples

@@ -8,7 +8,7 @@ ghost use Rattle.code_form.specs.Registers.{is_scratch, register_of, instruction
 ghost use Rattle.code_form.specs.Patterns.{Second, pattern};
 ghost use Rattle.code_form.specs.Recognition.{recognised, shape, second_of};
 ghost use Rattle.code_form.specs.Instructions.{upper_part, lower_part};
-ghost use Rattle.code_form.specs.Examples.{Terms, Slots, Swaps, LosesSwap};
+ghost use Rattle.code_form.specs.Examples.{HasForm, Terms, Slots, Swaps, LosesSwap};
 
 use crate::code::Operand;
 
@@ -31,6 +31,7 @@ pub fn constants_in_two_parts()
 /// That what is asked of code can be met: over terms, over slots, and over registers that two phis exchange. Where that exchange
 /// is lost, the block does not get what it was told.
 pub fn examples()
+    ensures emitted { HasForm }
     ensures terms { Terms }
     ensures slots { Slots }
     ensures swaps { Swaps }
