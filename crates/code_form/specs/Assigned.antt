@@ -23,7 +23,7 @@ use Rattle.code_form.specs.Registers.{is_scratch, is_writable, word_of}
 use Rattle.code_form.specs.Patterns.{Second, Register, Immediate, Zero, pattern, ignores_second, one, two}
 use Rattle.code_form.specs.Instructions.{load, store, environment, jump_to, branch_to, nested_call, return_to_link, add_to_stack, add_register_to_stack}
 use Rattle.code_form.specs.Frames.{link_slot}
-use Rattle.code_form.specs.Contents.{Held, Unknown, Word, Frame, Value, Argument, Link, Contents, with_held, Setting, is_word_of, held_in, held_by, behind_all, behind_jump, behind_call}
+use Rattle.code_form.specs.Contents.{Held, Unknown, Word, Frame, Value, Argument, Link, Contents, with_held, with_value, Setting, is_word_of, held_in, held_by, behind_all, behind_jump, behind_call}
 
 -- ---- operands
 
@@ -57,7 +57,7 @@ pub record DoesOperation (s : Setting) (c : Contents) (p : Piece) (t : Term) (op
   pub before : Contents
   pub writable : IsTrue (is_writable d)
   pub free : IsTrue (is_scratch scratch)
-  pub framed : IsFramed s c p (pattern op (Fixed d) (Fixed a) (Fixed scratch) second) before (with_held (with_held before scratch Unknown) d (Value t.0)) after
+  pub framed : IsFramed s c p (pattern op (Fixed d) (Fixed a) (Fixed scratch) second) before (with_value (with_held before scratch Unknown) d t.0) after
   pub has_form : pattern op (Fixed d) (Fixed a) (Fixed scratch) second ≢ []
   pub has_first : HoldsTerm s before a x
   pub has_second : IsTrue (ignores_second op || is_second s before y second)
@@ -76,7 +76,7 @@ pub record DoesLoad (s : Setting) (c : Contents) (p : Piece) (t : Term) (k : Wid
   pub offset : ℤ
   pub before : Contents
   pub writable : IsTrue (is_writable d)
-  pub framed : IsFramed s c p (one (load k (Fixed d) (Fixed a) offset)) before (with_held before d (Value t.0)) after
+  pub framed : IsFramed s c p (one (load k (Fixed d) (Fixed a) offset)) before (with_value before d t.0) after
   pub address : IsTrue (is_access s before a offset x)
 
 pub record DoesStore (s : Setting) (c : Contents) (p : Piece) (k : StoreWidth) (x v : Term) (after : Contents) : Type 0 where
@@ -93,22 +93,20 @@ pub record DoesParam (s : Setting) (c : Contents) (p : Piece) (t : Term) (i : �
   pub before : Contents
   pub framed : IsFramed s c p [] before before before
   pub moved : before (s.places t.0) ≡ Argument i
-  pub now : after ≡ with_held before (s.places t.0) (Value t.0)
+  pub now : after ≡ with_value before (s.places t.0) t.0
 
--- a term that comes with an effect, an edge or a call stands in its place, where glue may bring it, and has no words of its own
+-- a term that comes with an effect, an edge or a call stands in its place already, and has no words: so the account has its word
+-- as soon as it is held
 pub record IsThere (s : Setting) (c : Contents) (p : Piece) (t : Term) (after : Contents) : Type 0 where
-  pub before : Contents
-  pub framed : IsFramed s c p [] before before after
-  pub there : before (s.places t.0) ≡ Value t.0
+  pub words : p.words ≡ []
+  pub start : p.start ≡ 0
+  pub there : c (s.places t.0) ≡ Value t.0
+  pub same : after ≡ c
 
 -- each argument stands where the function that is called looks for it
 abbrev pub are_passed : Setting → Contents → (position : ℕ) → List Term → Bool
 are_passed s c i [] = true
 are_passed s c i (t ∷ ts) = is_word_of s t.0 (c (32 + 4 * i)) && are_passed s c (i + 1) ts
-
-abbrev pub held_by_call : Option Term → Held
-held_by_call None = Unknown
-held_by_call (Some t) = Value t.0
 
 pub record DoesCall (s : Setting) (c : Contents) (p : Piece) (f : ℕ) (ts : List Term) (called : Option Term) (after : Contents) : Type 0 where
   pub first : List Loose
@@ -119,20 +117,28 @@ pub record DoesCall (s : Setting) (c : Contents) (p : Piece) (f : ℕ) (ts : Lis
   pub start : p.start ≡ length first + 2
   pub to_own : behind_all s c first ≡ Some before
   pub passed : IsTrue (are_passed s before 0 ts)
-  pub from_own : behind_all s (behind_call before (held_by_call called)) last ≡ Some after
+  pub from_own : behind_all s (behind_call before called) last ≡ Some after
 
--- a call of the environment by this number, which leaves a word in x10
-pub record DoesRequest (s : Setting) (c : Contents) (p : Piece) (number : ℕ) (asked : Contents → Bool) (left : Held) (after : Contents) : Type 0 where
+-- a call of the environment by this number, where this is so, behind which this is held
+pub record DoesRequest (s : Setting) (c : Contents) (p : Piece) (number : ℕ) (asked : Contents → Bool) (behind : Contents → Contents) (after : Contents) : Type 0 where
   pub before : Contents
-  pub framed : IsFramed s c p (one environment) before (with_held before 10 left) after
+  pub framed : IsFramed s c p (one environment) before (behind before) after
   pub request : held_in before 17 ≡ Word number
   pub right : IsTrue (asked before)
 
 abbrev pub anything : Contents → Bool
 anything c = true
 
+-- x10 has the word of the term
 abbrev pub puts_word : Setting → Term → Contents → Bool
 puts_word s t c = is_word_of s t.0 (held_in c 10)
+
+-- x10 has the byte taken, or some word
+abbrev pub behind_get : Term → Contents → Contents
+behind_get t c = with_value c 10 t.0
+
+abbrev pub behind_put : Contents → Contents
+behind_put c = with_held c 10 Unknown
 
 -- what the words of an item do, and what is held behind them; what is ready is no item
 abbrev pub DoesNode : Setting → Contents → Piece → Term → Node → Contents → Type 0
@@ -150,9 +156,9 @@ abbrev pub DoesItem : Setting → Contents → Piece → Item → Contents → T
 DoesItem s c p (Define d) after = DoesNode s c p d.term d.node after
 DoesItem s c p (Store k x v) after = DoesStore s c p k x v after
 DoesItem s c p (Call f ts called) after = DoesCall s c p f ts called after
-DoesItem s c p (Get t) after = DoesRequest s c p 1 anything (Value t.0) after
-DoesItem s c p (Put t) after = DoesRequest s c p 2 (puts_word s t) Unknown after
-DoesItem s c p (Exit t) after = DoesRequest s c p 3 (puts_word s t) Unknown after
+DoesItem s c p (Get t) after = DoesRequest s c p 1 anything (behind_get t) after
+DoesItem s c p (Put t) after = DoesRequest s c p 2 (puts_word s t) behind_put after
+DoesItem s c p (Exit t) after = DoesRequest s c p 3 (puts_word s t) behind_put after
 
 -- ---- edges
 

@@ -3,6 +3,7 @@
 use Rattle.std.specs.Prelude.{ℕ, ◌+◌, ◌%◌, ◌^◌, ◌==◌, Bool, true, false, ◌&&◌, ◌||◌, nat_le, nat_lt, if◌then◌else◌, ℤ, List, [], ◌∷◌, Option, Some, None}
 use Rattle.std.specs.Option.{option_and_then}
 use Rattle.word_ops.specs.Choice.{only_if, when}
+use Rattle.term_form.specs.declared.term.Term.{Term}
 use Rattle.term_form.specs.declared.term.Root.TheVariants as roots
 use Rattle.term_form.specs.declared.term.Node.{Node}
 use Rattle.term_form.specs.declared.term.Node.TheVariants as nodes
@@ -160,6 +161,21 @@ behind_all s c (i ∷ is) = option_and_then (λ d. behind_all s d is) (behind_gl
 abbrev pub behind_jump : Contents → Contents
 behind_jump c = with_held c far Unknown
 
--- behind a call: what slots hold is as before, and of the registers x10 alone is known
-abbrev pub behind_call : Contents → Held → Contents
-behind_call c h = λ p. if nat_lt p 32 then (if p == 10 then h else Unknown) else c p
+-- ---- values
+
+-- behind a new value of a term: a place that had the one before holds some word
+abbrev pub forget : Contents → (term : ℕ) → Contents
+forget c t = λ p. if is_value t (c p) then Unknown else c p
+
+-- a place gets the new value
+abbrev pub with_value : Contents → (place term : ℕ) → Contents
+with_value c p t = with_held (forget c t) p (Value t)
+
+-- what a call leaves: what slots hold is as before, and of registers nothing is known
+abbrev pub slots_alone : Contents → Contents
+slots_alone c = λ p. if nat_lt p 32 then Unknown else c p
+
+-- behind a call, whose value is in x10
+abbrev pub behind_call : Contents → (called : Option Term) → Contents
+behind_call c None = slots_alone c
+behind_call c (Some t) = with_value (slots_alone c) 10 t.0

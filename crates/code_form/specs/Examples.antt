@@ -24,7 +24,7 @@ use Rattle.code_form.specs.declared.code.Assigned.{Assigned}
 use Rattle.code_form.specs.Registers.{stack_pointer}
 use Rattle.code_form.specs.Patterns.{on_immediate}
 use Rattle.code_form.specs.Instructions.{load, store, set, move_to, jump_to, branch_to, return_to_link}
-use Rattle.code_form.specs.Contents.{Held, Unknown, Value, Link, Contents, with_held, behind_all, behind_jump}
+use Rattle.code_form.specs.Contents.{Held, Unknown, Value, Link, Contents, with_held, with_value, behind_all, behind_jump}
 use Rattle.code_form.specs.Emitted.{IsEmittedForm}
 use Rattle.code_form.specs.Selected.{IsSelected}
 use Rattle.code_form.specs.Assigned.{Known, contents_of, setting_of, brings_all, IsAssigned}
@@ -166,7 +166,7 @@ entries (suc k) = phis_known
 
 -- behind the subtraction
 abbrev pub counted_down : Contents
-counted_down = with_held (with_held (contents_of phis_known) 30 Unknown) 12 (Value 7)
+counted_down = with_value (with_held (contents_of phis_known) 30 Unknown) 12 7
 
 -- x8 takes what x9 has, and then x9 what x8 has
 abbrev pub wrong_moves : List Loose
@@ -178,3 +178,7 @@ exchanges ms = option_map (λ c. brings_all (setting_of swapped) (behind_jump c)
 
 abbrev pub LosesSwap : Type 0
 LosesSwap = (exchanges moves ≡ Some true) × (exchanges wrong_moves ≡ Some false)
+
+-- where a term gets a new value, a place that had the one before has it no more
+abbrev pub Forgets : Type 0
+Forgets = with_value (with_held (contents_of phis_known) 9 (Value 7)) 12 7 9 ≡ Unknown

@@ -8,7 +8,7 @@ ghost use Rattle.code_form.specs.Registers.{is_scratch, register_of, instruction
 ghost use Rattle.code_form.specs.Patterns.{Second, pattern};
 ghost use Rattle.code_form.specs.Recognition.{recognised, shape, second_of};
 ghost use Rattle.code_form.specs.Instructions.{upper_part, lower_part};
-ghost use Rattle.code_form.specs.Examples.{HasForm, Terms, Slots, Swaps, LosesSwap};
+ghost use Rattle.code_form.specs.Examples.{HasForm, Terms, Slots, Swaps, LosesSwap, Forgets};
 
 use crate::code::Operand;
 
@@ -29,11 +29,12 @@ pub fn constants_in_two_parts()
 {}
 
 /// That what is asked of code can be met: over terms, over slots, and over registers that two phis exchange. Where that exchange
-/// is lost, the block does not get what it was told.
+/// is lost, the block does not get what it was told; and where a term gets a new value, no place keeps the one before by its name.
 pub fn examples()
     ensures emitted { HasForm }
     ensures terms { Terms }
     ensures slots { Slots }
     ensures swaps { Swaps }
     ensures loses_swap { LosesSwap }
+    ensures forgets { Forgets }
 {}

@@ -8,7 +8,7 @@ use Rattle.code_form.specs.declared.code.Operand.TheVariants.{Of}
 use Rattle.code_form.specs.declared.code.Loose.{Loose}
 use Rattle.code_form.specs.Patterns.{Immediate}
 use Rattle.code_form.specs.Instructions.{set, add_to_stack}
-use Rattle.code_form.specs.Contents.{Contents, Unknown, Word, Value, Argument, Link, with_held, Setting}
+use Rattle.code_form.specs.Contents.{Contents, Unknown, Word, Value, Argument, Link, with_held, with_value, Setting}
 use Rattle.code_form.specs.Selected.{IsOperation, IsSelected}
 use Rattle.code_form.specs.Assigned.{IsAssigned, DoesParam, DoesOperation, DoesReturn, DoesJump, DoesBranch, IsThere, contents_of, first_known, setting_of}
 use Rattle.code_form.specs.Examples.{get, put, copy, piece, sum_graph, sum_of_terms, sum_of_slots, takes, adds, returns, swapped, into_loop, exchange, moves, sets, branches, subtracts, swaps, gives_back, entries, phis_known, counted_down}
@@ -28,13 +28,13 @@ abbrev loaded : Contents
 loaded = with_held (with_held entered 5 (Argument 0)) 32 (Argument 0)
 
 abbrev taken : Contents
-taken = with_held loaded 32 (Value 0)
+taken = with_value loaded 32 0
 
 abbrev fetched : Contents
 fetched = with_held taken 5 (Value 0)
 
 abbrev added : Contents
-added = with_held (with_held fetched 30 Unknown) 7 (Value 1)
+added = with_value (with_held fetched 30 Unknown) 7 1
 
 abbrev kept : Contents
 kept = with_held added 36 (Value 1)
@@ -82,7 +82,7 @@ sets-phis : DoesJump setting entries begin sets into_loop 1
 sets-phis = record { before = set_up; ends = record { first = set 8 (pos 1) ∷ set 9 (pos 2) ∷ set 11 (pos 3) ∷ []; words = refl; start = refl; to_own = refl }; brings = refl }
 
 phi-there : (n k : ℕ) → head (setting.places k) ≡ Value k → IsThere setting head (piece n 0 []) (t k) head
-phi-there n k e = record { before = head; framed = record { first = []; last = []; words = refl; start = refl; to_own = refl; from_own = refl }; there = e }
+phi-there n k e = record { words = refl; start = refl; there = e; same = refl }
 
 branches-by-count : DoesBranch setting entries head branches [] (t 6) 2 3
 branches-by-count = record { a = 11; before = head; ends = record { first = []; words = refl; start = refl; to_own = refl }; none = refl; has_term = refl; brings_first = refl; brings_second = refl }

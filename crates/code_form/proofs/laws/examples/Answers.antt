@@ -5,4 +5,4 @@ use Rattle.code_form.specs.Laws.Emitted.{sum-emitted}
 use Rattle.code_form.specs.Laws.Examples.{terms-selected, slots-assigned, swap-assigned}
 
 pub returns : goal.returns
-returns c = record { emitted = sum-emitted; terms = terms-selected; slots = slots-assigned; swaps = swap-assigned; loses_swap = (refl, refl) }
+returns c = record { emitted = sum-emitted; terms = terms-selected; slots = slots-assigned; swaps = swap-assigned; loses_swap = (refl, refl); forgets = refl }
