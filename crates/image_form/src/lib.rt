@@ -33,6 +33,3 @@ pub use fault::ImageFault;
 pub use image::Image;
 pub use reading::read;
 pub use writing::write;
-
-#[cfg(test)]
-mod tests;

@@ -30,6 +30,3 @@ pub use laws::{
 pub use loader::load;
 pub use machine::Machine;
 pub use runner::{run, step};
-
-#[cfg(test)]
-mod tests;

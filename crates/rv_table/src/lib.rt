@@ -19,6 +19,3 @@ pub use fields::field;
 pub use instruction::{Instr, valid};
 pub use row::Row;
 pub use table::{Entry, Format, entry_of};
-
-#[cfg(test)]
-mod tests;

@@ -8,7 +8,5 @@ mod answer;
 mod commands;
 mod line;
 mod tell;
-#[cfg(test)]
-mod tests;
 
 pub use commands::drive;

@@ -1,6 +1,6 @@
 //! The table against the GNU assembler, which no contract can name: words of all rows, and words that are
 //! no instruction.
-use super::{Instr, Row, decode, encode, valid};
+use rv_table::{Instr, Row, decode, encode, valid};
 
 /// Words that the GNU assembler gives of all rows, and what stood in its input.
 const ASSEMBLED: [(u32, Row, [u32; 3], i32); 52] = [

@@ -1,9 +1,9 @@
 //! The machine over a real source and sink, once. What the definitions say of instructions and of small images is computed
 //! in `specs/Examples`, and that the code does what they say is its contract.
 
-use crate::{End, Stepped, load, run, step};
 use ccai_io::{MemSink, MemSource};
 use image_form::Image;
+use rv_machine::{End, Stepped, load, run, step};
 use std::test::Fail;
 use term_form::Listing;
 use word_ops::Items;

@@ -1,11 +1,11 @@
 //! Whole calls of the program over memory, each with the status, the output and the line that it must have: each command,
 //! each refusal, and each fault of the outside.
 
-use crate::drive;
 use ccai_io::{MemShelf, MemSink, MemSource};
 use std::alloc::Global;
 use std::process::Abort;
 use std::test::Fail;
+use top_call::drive;
 use word_ops::Memory;
 
 /// A call of the program where the shelf has one file, `a`, and what it comes to.

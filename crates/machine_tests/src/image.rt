@@ -1,6 +1,6 @@
 //! Records of each kind in bytes that were written out by hand. The offsets at which wrong bytes are wrong are computed in
 //! `specs/Examples.antt`.
-use super::*;
+use image_form::{Image, ImageFault, read, write};
 use std::alloc::{AllocError, Global};
 use std::test::Fail;
 use term_form::{

@@ -4,7 +4,7 @@
 mod adapters;
 mod memory;
 
-use crate::{Failed, Shelf, ShelfFault, Sink, Source};
+use ccai_io::{Failed, Shelf, ShelfFault, Sink, Source};
 use std::alloc::Global;
 use std::process::Abort;
 

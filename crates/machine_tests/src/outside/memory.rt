@@ -1,6 +1,6 @@
 //! The types in memory, each once through its trait.
 use super::{expect_byte, expect_file, expect_put};
-use crate::{Failed, MemShelf, MemSink, MemSource, ShelfFault, SureShelf, SureSource};
+use ccai_io::{Failed, MemShelf, MemSink, MemSource, ShelfFault, SureShelf, SureSource};
 use std::test::Fail;
 
 #[test]

@@ -1,6 +1,6 @@
 //! The adapters over real files, standard input and standard output, and a reader that is interrupted.
 use super::{expect_byte, expect_file, expect_put};
-use crate::{Failed, FileShelf, ShelfFault, StdSink, StdSource};
+use ccai_io::{Failed, FileShelf, ShelfFault, StdSink, StdSource};
 use std::io::{ErrorKind, Read};
 use std::test::Fail;
 use std::{fs, io};
