@@ -14,11 +14,11 @@ loop-turn-init g c = first_of (search rules, grind (arith, common_steps))
 pub returns-then-not-sees-clause-reads : goal.returns-then-not-sees-clause-reads
 returns-then-not-sees-clause-reads g c = items_end c.loop-turn.invariant.so_far c.loop-turn-test.true (cc)
 
-pub returns-in-Err-clause-reads : goal.returns-in-Err-clause-reads
-returns-in-Err-clause-reads g c = let e = item_refused c.loop-turn.invariant c.loop-turn-test.true (cc) c.in-Err.ensures.reads in search (rules, e)
+pub returns-in-loop-turn-clause-reads : goal.returns-in-loop-turn-clause-reads
+returns-in-loop-turn-clause-reads g c = let e = item_refused c.loop-turn.invariant c.loop-turn-test.true (cc) c.in-Err-or_drop.ensures.reads in search (rules, e)
 
 pub loop-turn-preserved : goal.loop-turn-preserved
-loop-turn-preserved g c = item_read c.loop-turn.invariant c.loop-turn-test.true (cc) c.in-Ok.ensures.reads c.in-Ok.ensures.keeps c.in-Ok.ensures.ends refl c.in_ok-found-2.ensures
+loop-turn-preserved g c = item_read c.loop-turn.invariant c.loop-turn-test.true (cc) c.in-Ok-or_drop.ensures.reads c.in-Ok-or_drop.ensures.keeps c.in-Ok-or_drop.ensures.ends refl c.in_ok-found-2.ensures
 
 pub returns-clause-reads : goal.returns-clause-reads
 returns-clause-reads g c = turns_end c.loop-turn.invariant.so_far c.loop-turn-test.false
