@@ -18,6 +18,15 @@ HEADS = {
 
 
 @dataclass
+class Arms:
+    """How the goals name the arms of the match on an item that was read."""
+
+    read: str
+    refused: str
+    returns: str  # what the refused one returns
+
+
+@dataclass
 class Parser:
     """A crate, and in what its loops differ from those of the other."""
 
@@ -27,6 +36,7 @@ class Parser:
     clauses: list  # of a call that reads an item: what it reads, and what it leaves as it was
     inside: str  # what stands for @ below: how much may still be nested, and what is read there
     lemmas: list  # where the lemmas stand
+    arms: Arms
 
 
 @dataclass
@@ -43,6 +53,11 @@ class Loop:
     step: str = ""  # how a further item changes that
     by: str = "cc"  # the tactic for what the test told
     tells: str = "cc"  # the tactic for what the item told
+    own_arms: Arms | None = None  # where they have other names than those of the parser's other loops
+
+    @property
+    def arms(self):
+        return self.own_arms or self.parser.arms
 
     @property
     def is_method(self):
@@ -56,11 +71,13 @@ class Loop:
 EXPRESSIONS = Parser(
     "c_expr_parser", "", "", ["reads", "keeps"], "l.self.more (inside l.self.more)",
     [("Rattle.c_expr_parser.proofs.Turns", ["Listing", "TellingListing", "item_read", "item_refused", "items_end", "turns_end"])],
+    Arms("in-Ok", "in-Err", "in-Err"),
 )
 UNITS = Parser(
     "c_unit_parser", ".state", ".so_far", ["reads", "keeps", "ends"], "l.self.more",
     [("Rattle.c_expr_parser.proofs.Turns", ["items_end", "turns_end"]),
      ("Rattle.c_unit_parser.proofs.Turns", ["Listing", "TellingListing", "item_read", "item_refused"])],
+    Arms("in-Ok-or_drop", "in-Err-or_drop", "in-loop-turn"),
 )
 
 LITERAL = "(one expressions.literal_at)"
@@ -79,7 +96,7 @@ LOOPS = [
     Loop(EXPRESSIONS, GRAMMAR + "run", "parts.run @", "expressions.goes_prefix", "(λ _. expressions.one_prefix @)",
          "not-goes_prefix", opened="parts.run", told="tight", step="(λ _. ties)"),
     Loop(EXPRESSIONS, GRAMMAR + "branches", "parts.branches @", "(goes production.conditional)", "(expressions.branch @)",
-         "not-goes", opened="parts.branches"),
+         "not-goes", opened="parts.branches", own_arms=Arms("in_Ok-found", "in_Err-found", "in_Err-found")),
     Loop(EXPRESSIONS, GRAMMAR + "targets", "parts.targets @ (is_unary l.first)", "expressions.goes_assign",
          "(λ _. expressions.after_operator (expressions.conditional @))",
          "not-goes", opened="parts.targets", told="unary", step="expressions.last_unary", by=BY_CASES),
@@ -182,15 +199,15 @@ def answer(loop, name, term, opened=""):
 def answers(loop):
     listing = f"c.loop-turn.invariant{loop.parser.listing}"
     more = f"c.loop-turn-test.true ({loop.by})"
-    refused = "c.in-Err.ensures.reads"
-    read = " ".join(f"c.in-Ok.ensures.{clause}" for clause in loop.parser.clauses)
+    refused = f"c.{loop.arms.refused}.ensures.reads"
+    read = " ".join(f"c.{loop.arms.read}.ensures.{clause}" for clause in loop.parser.clauses)
     told = f"({loop.tells})" if loop.told else "refl"
     pushed = f"c.in_ok-found{'-2' if loop.is_behind_first else ''}.ensures"
     text = ""
     if loop.opened:
         text += answer(loop, "loop-turn-init", BY_CASES, loop.opened)
     text += answer(loop, f"returns-then-{loop.test}-clause-reads", f"items_end {listing} {more}")
-    text += answer(loop, "returns-in-Err-clause-reads", f"let e = item_refused c.loop-turn.invariant {more} {refused} in search (rules, e)")
+    text += answer(loop, f"returns-{loop.arms.returns}-clause-reads", f"let e = item_refused c.loop-turn.invariant {more} {refused} in search (rules, e)")
     text += answer(loop, "loop-turn-preserved", f"item_read c.loop-turn.invariant {more} {read} {told} {pushed}")
     text += answer(loop, "returns-clause-reads", f"turns_end {listing} c.loop-turn-test.false")
     return text
