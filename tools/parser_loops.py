@@ -53,6 +53,7 @@ class Loop:
     step: str = ""  # how a further item changes that
     by: str = "cc"  # the tactic for what the test told
     tells: str = "cc"  # the tactic for what the item told
+    first: str = ""  # what is read before the loop, as the goals name it
     own_arms: Arms | None = None  # where they have other names than those of the parser's other loops
 
     @property
@@ -105,21 +106,21 @@ LOOPS = [
          "not-goes", opened="expressions.nexts"),
     Loop(EXPRESSIONS, GRAMMAR + "member_declarators", "parts.member_declarators @ l.typed", COMMA,
          "(specifiers.next_member_declarator @ l.typed)",
-         "not-sees", is_behind_first=True, opened="parts.member_declarators"),
+         "not-sees", is_behind_first=True, first="declarator", opened="parts.member_declarators"),
     Loop(EXPRESSIONS, GRAMMAR + "members", "parts.members @", "(specifiers.goes_member @)", "(specifiers.member @)",
-         "not-begins_type", is_behind_first=True, opened="parts.members"),
+         "not-begins_type", is_behind_first=True, first="first", opened="parts.members"),
     Loop(EXPRESSIONS, GRAMMAR + "enumerators", "parts.enumerators @", "specifiers.goes_enumerator",
          "(specifiers.next_enumerator @)",
-         "not-goes_enumerator", is_behind_first=True, opened="parts.enumerators"),
+         "not-goes_enumerator", is_behind_first=True, first="first", opened="parts.enumerators"),
     Loop(EXPRESSIONS, GRAMMAR + "specifiers", "specifiers.specifiers @ l.with_storage",
          "(specifiers.goes_specifier @ l.with_storage)", "(specifiers.one_specifier @ l.with_storage)",
-         "not-begins_specifier", is_behind_first=True, told="typed", step="(specifiers.types @)"),
+         "not-begins_specifier", is_behind_first=True, first="first", told="typed", step="(specifiers.types @)"),
     Loop(EXPRESSIONS, "declarators/constants", "parts.constants", "(λ i. is_const (peek i.1))", "(one declarators.const_at)",
          "not-is_const", opened="parts.constants"),
     Loop(EXPRESSIONS, "declarators/pointers", "declarators.pointers", "(sees p.Star)", "declarators.pointer",
          "not-sees", opened="declarators.pointers"),
     Loop(EXPRESSIONS, GRAMMAR + "parameter_list", "parts.parameter_list @", COMMA, "(declarators.next_parameter @)",
-         "not-sees", is_behind_first=True, opened="parts.parameter_list"),
+         "not-sees", is_behind_first=True, first="first", opened="parts.parameter_list"),
     Loop(EXPRESSIONS, GRAMMAR + "declarator_suffixes", "parts.declarator_suffixes @", "parts.goes_declarator_suffix",
          "(declarators.one_suffix @)", "not-sees_suffix", opened="parts.declarator_suffixes"),
     Loop(UNITS, GRAMMAR + "initialisers", "parts.initialisers @", "initialisers.goes_initialiser",
@@ -210,7 +211,30 @@ def answers(loop):
     text += answer(loop, f"returns-{loop.arms.returns}-clause-reads", f"let e = item_refused c.loop-turn.invariant {more} {refused} in search (rules, e)")
     text += answer(loop, "loop-turn-preserved", f"item_read c.loop-turn.invariant {more} {read} {told} {pushed}")
     text += answer(loop, "returns-clause-reads", f"turns_end {listing} c.loop-turn-test.false")
+    if not loop.parser.listing:
+        text += marks(loop)
     return text
+
+
+def marks(loop):
+    """Each mark of the names stays good: an item keeps it, and the invariant says that those before it did."""
+
+    def kept(name, *steps):
+        mark = "m"
+        for step in steps:
+            mark = f"{step}.keeps mark names {mark if mark == 'm' else f'({mark})'}"
+        return answer(loop, f"{name}-clause-keeps", f"λ mark names m. {mark}")
+
+    so_far = "c.loop-turn.invariant"
+    text = ""
+    if loop.first:
+        text += kept(f"returns-in_err-{loop.first}", f"c.in_err-{loop.first}.ensures")
+    if loop.is_behind_first:
+        text += kept("returns-in_err-found", *[f"c.in_ok-{loop.first}.ensures"] * (loop.first != ""))
+    text += kept(f"returns-then-{loop.test}", so_far)
+    text += kept(f"returns-{loop.arms.returns}", so_far, f"c.{loop.arms.refused}.ensures")
+    text += kept(f"returns-in_err-found{'-2' if loop.is_behind_first else ''}", so_far, f"c.{loop.arms.read}.ensures")
+    return text + kept("returns", so_far)
 
 
 def main():

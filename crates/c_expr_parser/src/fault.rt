@@ -21,7 +21,7 @@ pub enum ParseFault {
 }
 
 /// Why a production stopped. The cursor stands at the place.
-#[derive(Clone, Copy, Debug, PartialEq, Eq)]
+#[derive(Clone, Copy)]
 pub enum Stop {
     /// The grammar does not go on with the next token.
     Syntax,

@@ -23,6 +23,7 @@ pub fn with_suffixes(alloc: Global, first: Expr, rest: Items<Suffix>) -> Result<
     ensures { MatchResult result (λ e. e ≡ spec.with_suffixes first rest) (λ e. e ≡ stop.Memory) }
 {
     if rest.is_empty() {
+        drop(rest);
         return Ok(first);
     }
     let first = or_drop!(boxed(alloc, first), rest);
@@ -34,6 +35,7 @@ pub fn with_run(alloc: Global, run: Items<Prefix>, operand: Expr) -> Result<Expr
     ensures { MatchResult result (λ e. e ≡ spec.with_run run operand) (λ e. e ≡ stop.Memory) }
 {
     if run.is_empty() {
+        drop(run);
         return Ok(operand);
     }
     let operand = or_drop!(boxed(alloc, operand), run);
@@ -50,6 +52,7 @@ pub fn with_operands(
     ensures { MatchResult result (λ e. e ≡ spec.with_operands level first rest) (λ e. e ≡ stop.Memory) }
 {
     if rest.is_empty() {
+        drop(rest);
         return Ok(first);
     }
     let first = or_drop!(boxed(alloc, first), rest);
@@ -61,6 +64,7 @@ pub fn with_branches(alloc: Global, first: Expr, rest: Items<Branch>) -> Result<
     ensures { MatchResult result (λ e. e ≡ spec.with_branches first rest) (λ e. e ≡ stop.Memory) }
 {
     if rest.is_empty() {
+        drop(rest);
         return Ok(first);
     }
     let first = or_drop!(boxed(alloc, first), rest);
@@ -72,6 +76,7 @@ pub fn with_targets(alloc: Global, first: Expr, rest: Items<Next>) -> Result<Exp
     ensures { MatchResult result (λ e. e ≡ spec.with_targets first rest) (λ e. e ≡ stop.Memory) }
 {
     if rest.is_empty() {
+        drop(rest);
         return Ok(first);
     }
     let first = or_drop!(boxed(alloc, first), rest);
@@ -83,6 +88,7 @@ pub fn with_commas(alloc: Global, first: Expr, rest: Items<Next>) -> Result<Expr
     ensures { MatchResult result (λ e. e ≡ spec.with_commas first rest) (λ e. e ≡ stop.Memory) }
 {
     if rest.is_empty() {
+        drop(rest);
         return Ok(first);
     }
     let first = or_drop!(boxed(alloc, first), rest);

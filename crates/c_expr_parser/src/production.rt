@@ -8,7 +8,7 @@ ghost use Rattle.c_expr_parser.specs.Numbers.{number};
 use c_tree::{Level, Punct};
 
 /// The productions of expressions that have operators, tightest first, each with its number; `Nothing` is none of them.
-#[derive(Clone, Copy, PartialEq, Eq)]
+#[derive(Clone, Copy)]
 pub enum Production {
     Postfix = 1,
     Product = 5,

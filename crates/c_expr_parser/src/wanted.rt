@@ -15,7 +15,7 @@ pub enum Use {
 }
 
 /// The production of an expression that begins a tree of its own.
-#[derive(Clone, Copy, PartialEq, Eq)]
+#[derive(Clone, Copy)]
 pub enum Within {
     /// An expression (C11 6.5.17).
     Comma,
@@ -26,7 +26,7 @@ pub enum Within {
 }
 
 /// What is to be read.
-#[derive(Clone, Copy, PartialEq, Eq)]
+#[derive(Clone, Copy)]
 pub enum Wanted {
     /// An expression of this production.
     Expression(Within),

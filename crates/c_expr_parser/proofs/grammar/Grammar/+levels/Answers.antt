@@ -45,11 +45,35 @@ levels-loop-index-preserved g t c = level_read c.loop-index.invariant c.loop-ind
 pub levels-returns-clause-reads : goal.levels-returns-clause-reads
 levels-returns-clause-reads g t c = levels_end c.loop-index.invariant c.loop-index-test.false
 
+pub level_next-returns-in_err-operator-clause-keeps : goal.level_next-returns-in_err-operator-clause-keeps
+level_next-returns-in_err-operator-clause-keeps g t c = λ mark names m. c.in_err-operator.ensures.keeps mark names m
+
+pub level_next-returns-in_err-operand-clause-keeps : goal.level_next-returns-in_err-operand-clause-keeps
+level_next-returns-in_err-operand-clause-keeps g t c = λ mark names m. c.in_err-operand.ensures.keeps mark names (c.in_ok-operator.ensures.keeps mark names m)
+
+pub level_next-returns-clause-keeps : goal.level_next-returns-clause-keeps
+level_next-returns-clause-keeps g t c = λ mark names m. c.in_ok-operand.ensures.keeps mark names (c.in_ok-operator.ensures.keeps mark names m)
+
+pub level_rest-returns-then-not-goes-clause-keeps : goal.level_rest-returns-then-not-goes-clause-keeps
+level_rest-returns-then-not-goes-clause-keeps g t c = λ mark names m. c.loop-turn.invariant.keeps mark names m
+
+pub level_rest-returns-in-Err-clause-keeps : goal.level_rest-returns-in-Err-clause-keeps
+level_rest-returns-in-Err-clause-keeps g t c = λ mark names m. c.in-Err.ensures.keeps mark names (c.loop-turn.invariant.keeps mark names m)
+
+pub level_rest-returns-in_err-found-clause-keeps : goal.level_rest-returns-in_err-found-clause-keeps
+level_rest-returns-in_err-found-clause-keeps g t c = λ mark names m. c.in-Ok.ensures.keeps mark names (c.loop-turn.invariant.keeps mark names m)
+
+pub level_rest-returns-clause-keeps : goal.level_rest-returns-clause-keeps
+level_rest-returns-clause-keeps g t c = λ mark names m. c.loop-turn.invariant.keeps mark names m
+
+pub levels-returns-in_err-tree-clause-keeps : goal.levels-returns-in_err-tree-clause-keeps
+levels-returns-in_err-tree-clause-keeps g t c = λ mark names m. c.in_err-tree.ensures.keeps mark names m
+
 pub levels-returns-in-Err-clause-keeps : goal.levels-returns-in-Err-clause-keeps
-levels-returns-in-Err-clause-keeps g t c = let e = c.loop-index.invariant.keeps in search (rules, e)
+levels-returns-in-Err-clause-keeps g t c = λ mark names m. c.in-Err.ensures.keeps mark names (c.loop-index.invariant.keeps mark names m)
 
 pub levels-returns-in_err-tree-2-clause-keeps : goal.levels-returns-in_err-tree-2-clause-keeps
-levels-returns-in_err-tree-2-clause-keeps g t c = let e = c.loop-index.invariant.keeps in search (rules, e)
+levels-returns-in_err-tree-2-clause-keeps g t c = λ mark names m. c.in-Ok.ensures.keeps mark names (c.loop-index.invariant.keeps mark names m)
 
 pub levels-returns-clause-keeps : goal.levels-returns-clause-keeps
-levels-returns-clause-keeps g t c = c.loop-index.invariant.keeps
+levels-returns-clause-keeps g t c = λ mark names m. c.loop-index.invariant.keeps mark names m

@@ -15,3 +15,21 @@ loop-turn-preserved g c = item_read c.loop-turn.invariant c.loop-turn-test.true 
 
 pub returns-clause-reads : goal.returns-clause-reads
 returns-clause-reads g c = turns_end c.loop-turn.invariant c.loop-turn-test.false
+
+pub returns-in_err-first-clause-keeps : goal.returns-in_err-first-clause-keeps
+returns-in_err-first-clause-keeps g c = λ mark names m. c.in_err-first.ensures.keeps mark names m
+
+pub returns-in_err-found-clause-keeps : goal.returns-in_err-found-clause-keeps
+returns-in_err-found-clause-keeps g c = λ mark names m. c.in_ok-first.ensures.keeps mark names m
+
+pub returns-then-not-begins_specifier-clause-keeps : goal.returns-then-not-begins_specifier-clause-keeps
+returns-then-not-begins_specifier-clause-keeps g c = λ mark names m. c.loop-turn.invariant.keeps mark names m
+
+pub returns-in-Err-clause-keeps : goal.returns-in-Err-clause-keeps
+returns-in-Err-clause-keeps g c = λ mark names m. c.in-Err.ensures.keeps mark names (c.loop-turn.invariant.keeps mark names m)
+
+pub returns-in_err-found-2-clause-keeps : goal.returns-in_err-found-2-clause-keeps
+returns-in_err-found-2-clause-keeps g c = λ mark names m. c.in-Ok.ensures.keeps mark names (c.loop-turn.invariant.keeps mark names m)
+
+pub returns-clause-keeps : goal.returns-clause-keeps
+returns-clause-keeps g c = λ mark names m. c.loop-turn.invariant.keeps mark names m

@@ -21,3 +21,15 @@ loop-turn-preserved g c = item_read c.loop-turn.invariant c.loop-turn-test.true 
 
 pub returns-clause-reads : goal.returns-clause-reads
 returns-clause-reads g c = turns_end c.loop-turn.invariant c.loop-turn-test.false
+
+pub returns-then-not-goes-clause-keeps : goal.returns-then-not-goes-clause-keeps
+returns-then-not-goes-clause-keeps g c = λ mark names m. c.loop-turn.invariant.keeps mark names m
+
+pub returns-in-Err-clause-keeps : goal.returns-in-Err-clause-keeps
+returns-in-Err-clause-keeps g c = λ mark names m. c.in-Err.ensures.keeps mark names (c.loop-turn.invariant.keeps mark names m)
+
+pub returns-in_err-found-clause-keeps : goal.returns-in_err-found-clause-keeps
+returns-in_err-found-clause-keeps g c = λ mark names m. c.in-Ok.ensures.keeps mark names (c.loop-turn.invariant.keeps mark names m)
+
+pub returns-clause-keeps : goal.returns-clause-keeps
+returns-clause-keeps g c = λ mark names m. c.loop-turn.invariant.keeps mark names m

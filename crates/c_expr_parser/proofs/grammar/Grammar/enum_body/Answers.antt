@@ -1,0 +1,18 @@
+-- Written by tools/parser_keeps.py.
+-- Each call on the way keeps the marks of the names.
+use Rattle.c_expr_parser.proofs.grammar.Grammar.enum_body.Goals as goal
+
+pub returns-in-Err-clause-keeps : goal.returns-in-Err-clause-keeps
+returns-in-Err-clause-keeps g c = λ mark names m. c.in-Err.ensures.keeps mark names m
+
+pub returns-in-Err-enumerators-clause-keeps : goal.returns-in-Err-enumerators-clause-keeps
+returns-in-Err-enumerators-clause-keeps g c = λ mark names m. c.in-Err-enumerators.ensures.keeps mark names (c.in-Ok.ensures.keeps mark names m)
+
+pub returns-in-Err-last_comma-clause-keeps : goal.returns-in-Err-last_comma-clause-keeps
+returns-in-Err-last_comma-clause-keeps g c = λ mark names m. c.in-Err-last_comma.ensures.keeps mark names (c.in-Ok-enumerators.ensures.keeps mark names (c.in-Ok.ensures.keeps mark names m))
+
+pub returns-in-Err-expect-clause-keeps : goal.returns-in-Err-expect-clause-keeps
+returns-in-Err-expect-clause-keeps g c = λ mark names m. c.in-Err-expect.ensures.keeps mark names (c.in-Ok-last_comma.ensures.keeps mark names (c.in-Ok-enumerators.ensures.keeps mark names (c.in-Ok.ensures.keeps mark names m)))
+
+pub returns-clause-keeps : goal.returns-clause-keeps
+returns-clause-keeps g c = λ mark names m. c.in-Ok-expect.ensures.keeps mark names (c.in-Ok-last_comma.ensures.keeps mark names (c.in-Ok-enumerators.ensures.keeps mark names (c.in-Ok.ensures.keeps mark names m)))
