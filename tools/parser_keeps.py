@@ -1,5 +1,5 @@
 #!/usr/bin/env python3
-"""Writes, for the productions of the parser of expressions, why each mark of the names stays good.
+"""Writes, for the productions of the two parsers, why each mark of the names stays good, and the end of the source the same.
 
 Run from the top of the repository: `python3 tools/parser_keeps.py`. For each function in PATHS it writes Answers.antt, which
 begins with the line GENERATED below: each way out of the function keeps the marks since each call on that way does. The
@@ -16,11 +16,13 @@ A path is what the function does, in order, as the names of the goals tell it:
 from pathlib import Path
 
 GENERATED = "-- Written by tools/parser_keeps.py."
-HEAD = "-- Each call on the way keeps the marks of the names."
+HEADS = {
+    "c_expr_parser": "-- Each call on the way keeps the marks of the names.",
+    "c_unit_parser": "-- Each call on the way keeps the marks of the names, and where the source ends.",
+}
 MODULE = "grammar/Grammar"
-CRATE = "c_expr_parser"
 
-PATHS = {
+EXPRESSIONS = {
     "dot": "at? name? .",
     "arrow": "at? name? .",
     "increment": "expect? .",
@@ -72,6 +74,42 @@ PATHS = {
 }
 
 
+# Of the parser of units: the calls that `?` gives on, in order, and whether the function ends behind them.
+UNITS = {
+    "assigned": "value? .",
+    "first_initialiser": "value? .",
+    "next_initialiser": "expect? value? .",
+    "in_braces": "opening? items?",
+    "some_start": "equals? value? .",
+    "first_declarator": "declarator?",
+    "next_declarator": "expect? declarator?",
+    "declaration": "specifiers?",
+    "block": "opening? items?",
+    "scoped_block": "tree?",
+    "block_statement": "scoped_block? .",
+    "declaration_item": "declaration? .",
+    "case_item": "word? value?",
+    "default_item": "word? colon? .",
+    "statement_item": "statement? .",
+    "condition": "opening? value?",
+    "for_control": "opening? head?",
+    "break_statement": "word? semicolon? .",
+    "continue_statement": "word? semicolon? .",
+    "return_statement": "word? value? .",
+    "body": "tree?",
+    "else_if": "if_word? condition?",
+    "last_else": "body? .",
+    "one_else": "word?",
+    "if_statement": "word? condition?",
+    "while_statement": "word? condition?",
+    "do_statement": "word? body?",
+    "for_statement": "word? control?",
+    "switch_statement": "word? condition?",
+    "function_body": "declare_parameters? body?",
+    "external": "specifiers?",
+}
+
+
 def ways(path):
     """Each way out of a function: the name of its goal, and the steps on it that read."""
     steps, kept = [], []
@@ -95,21 +133,39 @@ def ways(path):
             steps = [*steps, f"in_ok-{word[:-1]}"]
 
 
-def answer(goal, steps):
+def clause(goal, name, term):
+    return f"\npub {goal}-clause-{name} : goal.{goal}-clause-{name}\n{goal}-clause-{name} g c = {term}\n"
+
+
+def kept(steps):
+    """The marks after these steps."""
     mark = "m"
     for step in steps:
         mark = f"(c.{step}.ensures.keeps mark names {mark})"
-    mark = mark[1:-1] if steps else mark
-    return f"\npub {goal}-clause-keeps : goal.{goal}-clause-keeps\n{goal}-clause-keeps g c = λ mark names m. {mark}\n"
+    return f"λ mark names m. {mark[1:-1] if steps else mark}"
+
+
+def answer_of_units(at, goal, steps):
+    """The answers for the way at this place among a function's ways: the residual of the first `?` has no longer name."""
+    residual = "c.from_residual" + (f"-{goal.removeprefix('returns-')}" if at else "")
+    keeps = kept(steps) if goal == "returns" else f"refused _ {residual}.result {residual}.ensures.0"
+    return clause(goal, "keeps", keeps) + clause(goal, "ends", " ∙ ".join(f"c.{step}.ensures.ends" for step in reversed(steps)))
+
+
+def write(crate, function, uses, text):
+    folder = Path("crates") / crate / "proofs" / MODULE / function
+    folder.mkdir(parents=True, exist_ok=True)
+    goals = f"use Rattle.{crate}.proofs.{MODULE.replace('/', '.')}.{function}.Goals as goal\n"
+    (folder / "Answers.antt").write_text(f"{GENERATED}\n{HEADS[crate]}\n{uses}{goals}{text}")
 
 
 def main():
-    for function, path in PATHS.items():
-        folder = Path("crates") / CRATE / "proofs" / MODULE / function
-        folder.mkdir(parents=True, exist_ok=True)
-        goals = f"use Rattle.{CRATE}.proofs.{MODULE.replace('/', '.')}.{function}.Goals as goal\n"
-        text = "".join(answer(*way) for way in ways(path))
-        (folder / "Answers.antt").write_text(f"{GENERATED}\n{HEAD}\n{goals}{text}")
+    for function, path in EXPRESSIONS.items():
+        write("c_expr_parser", function, "", "".join(clause(goal, "keeps", kept(steps)) for goal, steps in ways(path)))
+    for function, path in UNITS.items():
+        text = "".join(answer_of_units(at, *way) for at, way in enumerate(ways(path)))
+        uses = "use Rattle.std.proofs.Common.{◌∙◌}\n" * ("∙" in text) + "use Rattle.c_unit_parser.proofs.Refused.{refused}\n"
+        write("c_unit_parser", function, uses, text)
 
 
 main()

@@ -10,3 +10,4 @@ pub mod Puts
 pub mod Declared
 pub mod Whole
 pub mod Depth
+pub mod Refused

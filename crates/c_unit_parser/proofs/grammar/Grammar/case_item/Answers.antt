@@ -1,0 +1,17 @@
+-- Written by tools/parser_keeps.py.
+-- Each call on the way keeps the marks of the names, and where the source ends.
+use Rattle.std.proofs.Common.{◌∙◌}
+use Rattle.c_unit_parser.proofs.Refused.{refused}
+use Rattle.c_unit_parser.proofs.grammar.Grammar.case_item.Goals as goal
+
+pub returns-in_err-word-clause-keeps : goal.returns-in_err-word-clause-keeps
+returns-in_err-word-clause-keeps g c = refused _ c.from_residual.result c.from_residual.ensures.0
+
+pub returns-in_err-word-clause-ends : goal.returns-in_err-word-clause-ends
+returns-in_err-word-clause-ends g c = c.in_err-word.ensures.ends
+
+pub returns-in_err-value-clause-keeps : goal.returns-in_err-value-clause-keeps
+returns-in_err-value-clause-keeps g c = refused _ c.from_residual-in_err-value.result c.from_residual-in_err-value.ensures.0
+
+pub returns-in_err-value-clause-ends : goal.returns-in_err-value-clause-ends
+returns-in_err-value-clause-ends g c = c.in_err-value.ensures.ends ∙ c.in_ok-word.ensures.ends

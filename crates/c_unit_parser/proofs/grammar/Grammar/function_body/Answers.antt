@@ -1,0 +1,17 @@
+-- Written by tools/parser_keeps.py.
+-- Each call on the way keeps the marks of the names, and where the source ends.
+use Rattle.std.proofs.Common.{◌∙◌}
+use Rattle.c_unit_parser.proofs.Refused.{refused}
+use Rattle.c_unit_parser.proofs.grammar.Grammar.function_body.Goals as goal
+
+pub returns-in_err-declare_parameters-clause-keeps : goal.returns-in_err-declare_parameters-clause-keeps
+returns-in_err-declare_parameters-clause-keeps g c = refused _ c.from_residual.result c.from_residual.ensures.0
+
+pub returns-in_err-declare_parameters-clause-ends : goal.returns-in_err-declare_parameters-clause-ends
+returns-in_err-declare_parameters-clause-ends g c = c.in_err-declare_parameters.ensures.ends
+
+pub returns-in_err-body-clause-keeps : goal.returns-in_err-body-clause-keeps
+returns-in_err-body-clause-keeps g c = refused _ c.from_residual-in_err-body.result c.from_residual-in_err-body.ensures.0
+
+pub returns-in_err-body-clause-ends : goal.returns-in_err-body-clause-ends
+returns-in_err-body-clause-ends g c = c.in_err-body.ensures.ends ∙ c.in_ok-declare_parameters.ensures.ends

@@ -1,0 +1,17 @@
+-- Written by tools/parser_keeps.py.
+-- Each call on the way keeps the marks of the names, and where the source ends.
+use Rattle.std.proofs.Common.{◌∙◌}
+use Rattle.c_unit_parser.proofs.Refused.{refused}
+use Rattle.c_unit_parser.proofs.grammar.Grammar.next_declarator.Goals as goal
+
+pub returns-in_err-expect-clause-keeps : goal.returns-in_err-expect-clause-keeps
+returns-in_err-expect-clause-keeps g c = refused _ c.from_residual.result c.from_residual.ensures.0
+
+pub returns-in_err-expect-clause-ends : goal.returns-in_err-expect-clause-ends
+returns-in_err-expect-clause-ends g c = c.in_err-expect.ensures.ends
+
+pub returns-in_err-declarator-clause-keeps : goal.returns-in_err-declarator-clause-keeps
+returns-in_err-declarator-clause-keeps g c = refused _ c.from_residual-in_err-declarator.result c.from_residual-in_err-declarator.ensures.0
+
+pub returns-in_err-declarator-clause-ends : goal.returns-in_err-declarator-clause-ends
+returns-in_err-declarator-clause-ends g c = c.in_err-declarator.ensures.ends ∙ c.in_ok-expect.ensures.ends
