@@ -1,9 +1,9 @@
 #!/usr/bin/env python3
 """Writes, for the productions of the two parsers, why each mark of the names stays good, and the end of the source the same.
 
-Run from the top of the repository: `python3 tools/parser_keeps.py`. For each function in PATHS it writes Answers.antt, which
-begins with the line GENERATED below: each way out of the function keeps the marks since each call on that way does. The
-check finds these answers too, but searching takes it longer than all else of such a proof.
+Run from the top of the repository: `python3 tools/parser_keeps.py`. For each function in EXPRESSIONS and UNITS it writes
+Answers.antt, which begins with the line GENERATED below: each way out of the function keeps the marks since each call on that
+way does. The check finds these answers by itself too, but the search takes long.
 
 A path is what the function does, in order, as the names of the goals tell it:
   x?      a call under `let x` (or `x` itself) that is given on by `?`        x?-     one that reads nothing
