@@ -37,7 +37,8 @@ fn value_until(
     ensures ends { input.new.end ≡ input.old.end }
 {
     if input.sees(op) {
-        return Ok((None, input.expect(op)?));
+        let at = input.expect(op)?;
+        return Ok((None, at));
     }
     let value = input.nested_expression(alloc, more)?;
     let at = or_drop!(input.expect(op), value);
