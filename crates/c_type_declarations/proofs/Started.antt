@@ -21,16 +21,15 @@ use Rattle.c_type_walk.proofs.Walked.{then, gives, asks_nothing, changes, tail, 
 
 -- a type may be filled, an initialiser fills it, and what is filled is walked by a call
 pub started_as : {B C : Type 0} (fillable : Walk CType) (fill : CType → Walk B) (rest : CType → B → Walk C) (c : Around)
-    (old mid behind new : Found) (u v : CType) (f : B) (ou : Option CType) (of : Option B) (r : Result (Option C) Memory) →
-    Gave (fillable (fixed c) old.state) old mid ou → ou ≡ Some u → v ≡ u →
-    Gave (fill v (fixed c) mid.state) mid behind of → of ≡ Some f →
+    (old mid behind new : Found) (u : CType) (f : B) (ou : Option CType) (of : Option B) (r : Result (Option C) Memory) →
+    Gave (fillable (fixed c) old.state) old mid ou → ou ≡ Some u →
+    Gave (fill u (fixed c) mid.state) mid behind of → of ≡ Some f →
     Walks (rest u f) c behind r new → Walks (fillable >>= λ u. asked u (λ u. fill u >>= λ f. asked f (rest u))) c old r new
-started_as {B} {C} fillable fill rest c old mid behind new u v f ou of r g e k h l w =
+started_as {B} {C} fillable fill rest c old mid behind new u f ou of r g e h l w =
     let P : Option CType → Type 0 = λ o. Gave (fillable (fixed c) old.state) old mid o in
-    let Q : Option B → Type 0 = λ o. Gave (fill v (fixed c) mid.state) mid behind o in
-    let R : CType → Type 0 = λ x. Gave (fill x (fixed c) mid.state) mid behind (Some f) in
+    let Q : Option B → Type 0 = λ o. Gave (fill u (fixed c) mid.state) mid behind o in
     let one : Gave (fillable (fixed c) old.state) old mid (Some u) = subst P e g in
-    let two : Gave (fill u (fixed c) mid.state) mid behind (Some f) = subst R k (subst Q l h) in
+    let two : Gave (fill u (fixed c) mid.state) mid behind (Some f) = subst Q l h in
     tail (rest u f) (fillable >>= λ u. asked u (λ u. fill u >>= λ f. asked f (rest u))) c c old behind new r
     (λ a last. then fillable (λ u. asked u (λ u. fill u >>= λ f. asked f (rest u))) (fixed c) old mid new (Some u) a one
     (then (fill u) (λ f. asked f (rest u)) (fixed c) mid behind new (Some f) a two last)) w
@@ -49,35 +48,34 @@ filled_as id v slot filled =
     spec.sized_row id.place v >>= λ w. spec.automatic id.text v slot.place slot.number slot.in_register >>= λ v'. initialiser_row v filled.leaves >>= λ i.
     spec.owned v slot.number (asked w (λ w. spec.initialised slot.place i))
 
-filled_says : (id : Identifier) (v x : CType) (slot : Slot) (filled : Filled) (c : scopes.Around) (old one two three new : Found)
-    (sized : Option CType) (initial : Option Initialiser) → x ≡ v → Gave (spec.sized_row id.place x c old.state) old one sized →
+filled_says : (id : Identifier) (v : CType) (slot : Slot) (filled : Filled) (c : scopes.Around) (old one two three new : Found)
+    (sized : Option CType) (initial : Option Initialiser) → Gave (spec.sized_row id.place v c old.state) old one sized →
     two.faults ≡ one.faults → two.state ≡ record (one.state) { names = one.state.names ++ (id.text, automatic_at slot v) ∷ [] } →
     Gave (initialiser_row v filled.leaves c two.state) two three initial →
     new.faults ≡ three.faults → new.state ≡ record (three.state) { own = three.state.own ++ record { ctype = v; number = slot.number } ∷ [] } →
     Gave (filled_as id v slot filled c old.state) old new (initialised_at slot.place sized initial)
-filled_says id v x slot filled c old one two three new sized initial e g f h k l m =
-    let P : CType → Type 0 = λ y. Gave (spec.sized_row id.place y c old.state) old one sized in
+filled_says id v slot filled c old one two three new sized initial g f h k l m =
     let given = initialised_at slot.place sized initial in
     let last : Option Initialiser → Walk spec.Made = λ i. spec.owned v slot.number (asked sized (λ w. spec.initialised slot.place i)) in
     then (spec.sized_row id.place v)
     (λ w. spec.automatic id.text v slot.place slot.number slot.in_register >>= λ v'. initialiser_row v filled.leaves >>= λ i.
     spec.owned v slot.number (asked w (λ w. spec.initialised slot.place i)))
-    c old one new sized given (subst P e g)
+    c old one new sized given g
     (then (spec.automatic id.text v slot.place slot.number slot.in_register) (λ v'. initialiser_row v filled.leaves >>= last) c one two new (Some v) given
     (changes (λ (s : State). record s { names = s.names ++ (id.text, automatic_at slot v) ∷ [] }) (scopes.give v) c one two two (Some v) f h (gives v c two))
     (then (initialiser_row v filled.leaves) last c two three new initial given k
     (changes (λ (s : State). record s { own = s.own ++ record { ctype = v; number = slot.number } ∷ [] }) (asked sized (λ w. spec.initialised slot.place initial)) c three new new given l m
     (initialised_says slot.place sized initial c new))))
 
-pub automatic_says : (id : Identifier) (u v x : CType) (slot : Slot) (filled : Filled) (c : Around) (old one two three new : Found)
-    (sized : Option CType) (initial : Option Initialiser) (r : Result (Option spec.Made) Memory) → v ≡ spec.counted u filled.count → x ≡ v →
-    Gave (spec.sized_row id.place x (fixed c) old.state) old one sized →
+pub automatic_says : (id : Identifier) (u v : CType) (slot : Slot) (filled : Filled) (c : Around) (old one two three new : Found)
+    (sized : Option CType) (initial : Option Initialiser) (r : Result (Option spec.Made) Memory) → v ≡ spec.counted u filled.count →
+    Gave (spec.sized_row id.place v (fixed c) old.state) old one sized →
     two.faults ≡ one.faults → two.state ≡ record (one.state) { names = one.state.names ++ (id.text, automatic_at slot v) ∷ [] } →
     Gave (initialiser_row v filled.leaves (fixed c) two.state) two three initial →
     new.faults ≡ three.faults → new.state ≡ record (three.state) { own = three.state.own ++ record { ctype = v; number = slot.number } ∷ [] } →
     IfOk r (λ p. p ≡ initialised_at slot.place sized initial) →
     Walks (spec.automatic_filled id u slot.place slot.number slot.in_register filled) c old r new
-automatic_says id u v x slot filled c old one two three new sized initial r e k g f h i l m n =
+automatic_says id u v slot filled c old one two three new sized initial r e g f h i l m n =
     let P : CType → Type 0 = λ y. Gave (filled_as id y slot filled (fixed c) old.state) old new (initialised_at slot.place sized initial) in
     answered (spec.automatic_filled id u slot.place slot.number slot.in_register filled) c old new r (initialised_at slot.place sized initial) n
-    (subst P e (filled_says id v x slot filled (fixed c) old one two three new sized initial k g f h i l m))
+    (subst P e (filled_says id v slot filled (fixed c) old one two three new sized initial g f h i l m))

@@ -1,21 +1,22 @@
 //! Declarations of automatic objects (C11 6.2.4p5).
 //! Rows from the type of a declarator on; its initialiser is walked over by c_type_initialisers.
 
-ghost use Rattle.std.specs.Prelude.{◌≡◌, ◌∷◌, [], ◌++◌, IfOk, OnOk, Some, None};
+ghost use Rattle.std.specs.Prelude.{◌≡◌, ◌∷◌, [], ◌++◌, IfOk, OnOk, Some, None, is_some};
 ghost use Rattle.std.specs.Option.{option_copied};
 ghost use Rattle.c_typing.specs.Declarations as spec;
 ghost use Rattle.c_typing.specs.Initialisers.{initialiser_typing};
+ghost use Rattle.c_typing.specs.Scopes as scopes;
+ghost use Rattle.c_tree.specs.declared.refusal.FaultKind.TheVariants as kind;
 ghost use Rattle.c_type_walk.specs.Walks.{Walks, fixed};
 ghost use Rattle.c_type_declarations.specs.Slots.{slot_at, automatic_at, initialised_at};
 ghost use Rattle.c_type_declarations.specs.Starting.{starting};
 
 use crate::made::one;
 use crate::objects::{counted, sized_row};
-use crate::starts::fillable_row;
+use crate::starts::{completed_row, fillable_row, filled_row};
 use c_tree::typed::{CType, TStmt};
 use c_tree::{FaultKind, Identifier, Initialiser};
-use c_type_declarators::complete_row;
-use c_type_initialisers::{fill, initialiser_row};
+use c_type_initialisers::initialiser_row;
 use c_type_rules::copied;
 use c_type_walk::{Around, Found};
 use c_typing::{Filled, Local, Meaning};
@@ -52,14 +53,34 @@ pub(crate) fn automatic_row(
 ) -> Result<Option<Items<TStmt>>, Memory>
     ensures { Walks (spec.automatic_row name.now in_register ctype (starting (option_copied start.entry))) around.now found.old result found.new }
 {
-    let slot = next_slot(found, around, in_register)?;
-    let stood = found.own_meaning(around, &name.text).is_some();
-    found.tell_if(stood, FaultKind::Redeclared, name.place)?;
-    declare_automatic(alloc, found, &name.text, &ctype, slot)?;
+    let Ok(slot) = automatic_begun(alloc, found, around, name, in_register, &ctype) else {
+        drop(ctype);
+        return Err(Memory);
+    };
     match start {
         None => unstarted(alloc, found, around, name, slot, ctype),
         Some(start) => started(alloc, found, around, name, slot, ctype, start),
     }
+}
+
+/// Declares an automatic object, which stands at the next place.
+fn automatic_begun(
+    alloc: Global,
+    found: &mut Found,
+    around: &Around<'_>,
+    name: &Identifier,
+    in_register: bool,
+    ctype: &CType,
+) -> Result<Slot, Memory>
+    ensures slot { IfOk result (λ slot. slot ≡ slot_at (fixed around.now) found.old.state in_register) }
+    ensures faults { OnOk result (found.new.faults ≡ found.old.faults ++ scopes.fault_if (is_some (scopes.own_meaning (fixed around.now) found.old.state name.now.text)) kind.Redeclared name.now.place) }
+    ensures state { OnOk result (found.new.state ≡ record found.old.state { names = found.old.state.names ++ (name.now.text, automatic_at (slot_at (fixed around.now) found.old.state in_register) ctype.now) ∷ [] }) }
+{
+    let slot = next_slot(found, around, in_register)?;
+    let stood = found.own_meaning(around, &name.text).is_some();
+    found.tell_if(stood, FaultKind::Redeclared, name.place)?;
+    declare_automatic(alloc, found, &name.text, ctype, slot)?;
+    Ok(slot)
 }
 
 /// Where the next object of the present block stands.
@@ -110,11 +131,18 @@ fn unstarted(
 ) -> Result<Option<Items<TStmt>>, Memory>
     ensures { Walks (spec.automatic_start name.now slot.place slot.number slot.in_register None ctype) around.now found.old result found.new }
 {
-    let complete = complete_row(found, around, name.place, copied(alloc, &ctype)?)?;
-    keep_local(found, ctype, slot)?;
-    if complete.is_none() {
-        return Ok(None);
+    let Ok(complete) = completed_row(alloc, found, around, name.place, &ctype) else {
+        drop(ctype);
+        return Err(Memory);
+    };
+    if keep_local(found, ctype, slot).is_err() {
+        drop(complete);
+        return Err(Memory);
     }
+    let Some(complete) = complete else {
+        return Ok(None);
+    };
+    drop(complete);
     Ok(Some(Items::new(alloc)))
 }
 
@@ -133,7 +161,12 @@ fn started(
     let Some(ctype) = fillable_row(found, around, name.place, ctype)? else {
         return Ok(None);
     };
-    let Some(filled) = fill(alloc, found, around, start, 0, copied(alloc, &ctype)?)? else {
+    let Ok(filled) = filled_row(alloc, found, around, start, &ctype) else {
+        drop(ctype);
+        return Err(Memory);
+    };
+    let Some(filled) = filled else {
+        drop(ctype);
         return Ok(None);
     };
     automatic_filled(alloc, found, around, name, slot, ctype, filled)
@@ -151,11 +184,26 @@ fn automatic_filled(
 ) -> Result<Option<Items<TStmt>>, Memory>
     ensures { Walks (spec.automatic_filled name.now ctype slot.place slot.number slot.in_register filled) around.now found.old result found.new }
 {
-    let ctype = counted(alloc, ctype, filled.count)?;
-    let sized = sized_row(found, around, name.place, copied(alloc, &ctype)?)?;
-    declare_automatic(alloc, found, &name.text, &ctype, slot)?;
-    let initial = initialiser_row(alloc, found, around, &ctype, filled.leaves)?;
-    keep_local(found, ctype, slot)?;
+    let Ok(ctype) = counted(alloc, ctype, filled.count) else {
+        drop(filled);
+        return Err(Memory);
+    };
+    let Ok(sized) = sized_row(alloc, found, around, name.place, &ctype) else {
+        drop((ctype, filled));
+        return Err(Memory);
+    };
+    let Ok(()) = declare_automatic(alloc, found, &name.text, &ctype, slot) else {
+        drop((ctype, filled, sized));
+        return Err(Memory);
+    };
+    let Ok(initial) = initialiser_row(alloc, found, around, &ctype, filled.leaves) else {
+        drop((ctype, sized));
+        return Err(Memory);
+    };
+    let Ok(()) = keep_local(found, ctype, slot) else {
+        drop((sized, initial));
+        return Err(Memory);
+    };
     initialised(alloc, slot, sized, initial)
 }
 
@@ -168,7 +216,12 @@ fn initialised(
 ) -> Result<Option<Items<TStmt>>, Memory>
     ensures { IfOk result (λ made. made ≡ initialised_at slot.place sized initial) }
 {
-    let (Some(_), Some(initial)) = (sized, initial) else {
+    let Some(sized) = sized else {
+        drop(initial);
+        return Ok(None);
+    };
+    drop(sized);
+    let Some(initial) = initial else {
         return Ok(None);
     };
     Ok(Some(one(alloc, TStmt::Initialise(slot.place, initial))?))

@@ -269,9 +269,11 @@ fn add_new(alloc: Global, all: &mut Items<Text>, tree: &Declarator) -> Result<()
     ensures { OnOk result (all.new ≡ units.with_new all.old (spec.name_of (declarator_typing tree.now).name ∷ [])) }
 {
     let text = name_text(alloc, tree)?;
-    if !is_among(all.as_slice(), &text) {
-        all.push(text)?;
+    if is_among(all.as_slice(), &text) {
+        drop(text);
+        return Ok(());
     }
+    all.push(text)?;
     Ok(())
 }
 

@@ -1,7 +1,7 @@
 //! Declarations (C11 6.7): what each declarator with its initialiser declares, and where.
 //! Walks over specifiers, declarators and initialisers in turn; the rows stand in the files beside it.
 
-ghost use Rattle.std.specs.Prelude.{◌≡◌, IfOk, false, map, unwrap_or};
+ghost use Rattle.std.specs.Prelude.{◌≡◌, IfOk, None, Some, false, map, unwrap_or};
 ghost use Rattle.std.specs.Option.{option_copied, option_map};
 ghost use Rattle.c_typing.specs.Declarations as spec;
 ghost use Rattle.c_type_walk.specs.Walks.{Walks};
@@ -43,7 +43,11 @@ pub fn declaration_row(
     let basis = specifiers(alloc, found, around, alone, list)?;
     let first = first_specifier(list);
     let declarators = tree.declarators.as_slice();
-    let made = init_declarators_row(alloc, found, around, first, basis.as_ref(), declarators)?;
+    let made = init_declarators_row(alloc, found, around, first, basis.as_ref(), declarators);
+    let Ok(made) = made else {
+        drop(basis);
+        return Err(Memory);
+    };
     Ok(behind_any(basis, made))
 }
 
@@ -51,10 +55,12 @@ pub fn declaration_row(
 fn behind_any(basis: Option<Basis>, made: Option<Items<TStmt>>) -> Option<Items<TStmt>>
     ensures { result ≡ rows.behind_any basis made }
 {
-    match basis {
-        Some(_) => made,
-        None => None,
-    }
+    let Some(basis) = basis else {
+        drop(made);
+        return None;
+    };
+    drop(basis);
+    made
 }
 
 /// The declarators of a declaration, in order: what one declares is visible in the next (C11 6.2.1p7).
@@ -70,7 +76,10 @@ fn init_declarators_row(
 {
     let mut made = Some(Items::new(alloc));
     for one in list {
-        let next = init_declarator_row(alloc, found, around, first, basis, one)?;
+        let Ok(next) = init_declarator_row(alloc, found, around, first, basis, one) else {
+            drop(made);
+            return Err(Memory);
+        };
         made = both(made, next)?;
     }
     Ok(made)
@@ -104,20 +113,35 @@ fn declared_if(
     ensures { Walks (spec.declared_if (option_copied basis.entry) (unwrap_or (declarator_typing tree.now.declarator).makes false) (declarator_typing tree.now.declarator).name (spec.beginning_of tree.now).start ctype) around.now found.old result found.new }
 {
     let Some(name) = name(&tree.declarator) else {
+        drop(ctype);
         return Ok(None);
     };
-    match (basis, ctype) {
-        (Some(basis), Some(ctype)) => {
-            let start = start_of(tree);
-            declared_row(alloc, found, around, basis.storage, name, start, ctype)
-        }
-        _ => {
-            let storage = storage_of(basis);
-            let is_linked = around.at_file_level
-                || (is_extern(storage) || makes(&tree.declarator).unwrap_or(false));
-            untyped_row(alloc, found, around, is_typedef(storage), is_linked, name)
-        }
-    }
+    let Some(ctype) = ctype else {
+        return untyped_by(alloc, found, around, basis, tree, name);
+    };
+    let Some(basis) = basis else {
+        drop(ctype);
+        return untyped_by(alloc, found, around, None, tree, name);
+    };
+    let start = start_of(tree);
+    declared_row(alloc, found, around, basis.storage, name, start, ctype)
+}
+
+/// A name in whose type there is a fault, by the specifiers before it.
+fn untyped_by(
+    alloc: Global,
+    found: &mut Found,
+    around: &Around<'_>,
+    basis: Option<&Basis>,
+    tree: &InitDeclarator,
+    name: &Identifier,
+) -> Result<Option<Items<TStmt>>, Memory>
+    ensures { Walks (spec.declared_if (option_copied basis.entry) (unwrap_or (declarator_typing tree.now.declarator).makes false) (Some name.now) (spec.beginning_of tree.now).start None) around.now found.old result found.new }
+{
+    let storage = storage_of(basis);
+    let is_linked = around.at_file_level
+        || (is_extern(storage) || makes(&tree.declarator).unwrap_or(false));
+    untyped_row(alloc, found, around, is_typedef(storage), is_linked, name)
 }
 
 /// The initialiser of a declarator, where one stands.
@@ -193,7 +217,10 @@ fn typedef_row(
     ensures { Walks (spec.typedef_row name.now ctype (starting (option_copied start.entry))) around.now found.old result found.new }
 {
     let allowed = allows_typedef(&ctype, found.own_meaning(around, &name.text));
-    found.tell_if(!allowed, FaultKind::Redeclared, name.place)?;
+    let Ok(()) = found.tell_if(!allowed, FaultKind::Redeclared, name.place) else {
+        drop(ctype);
+        return Err(Memory);
+    };
     found.declare(alloc, &name.text, Meaning::TypedefOf(ctype))?;
     without_start(alloc, found, around, start)
 }

@@ -10,6 +10,7 @@ ghost use Rattle.c_tree.specs.declared.refusal.FaultKind.TheVariants as kind;
 ghost use Rattle.c_type_walk.specs.Walks.{fixed};
 ghost use Rattle.c_type_declarations.specs.Linkage as parts;
 
+use crate::made::one;
 use crate::second_declarations::{agrees, allows_linked, composed, is_defined};
 use c_tree::typed::{Base, CType, Derived};
 use c_tree::{FaultKind, Identifier};
@@ -38,8 +39,7 @@ fn function_type(value: CType, parameters: Items<CType>) -> Result<CType, Memory
 fn takes_int(alloc: Global, value: Base) -> Result<CType, Memory>
     ensures { IfOk result (λ t. t ≡ spec.function_type (types.plain value) (types.int ∷ [])) }
 {
-    let mut parameters = Items::new(alloc);
-    parameters.push(plain(alloc, Base::Int))?;
+    let parameters = one(alloc, plain(alloc, Base::Int))?;
     function_type(plain(alloc, value), parameters)
 }
 
@@ -63,7 +63,10 @@ fn breaks_library(alloc: Global, name: &Text, defines: bool, ctype: &CType) -> R
     if !is_library(name) {
         return Ok(false);
     }
-    Ok(defines || !compatible(ctype, &library_type(alloc, name)?))
+    let library = library_type(alloc, name)?;
+    let fits = compatible(ctype, &library);
+    drop(library);
+    Ok(defines || !fits)
 }
 
 /// Whether a declaration of a name with linkage may not stand behind those before it: `own` is what its scope has declared
@@ -104,7 +107,9 @@ fn is_wrong_main(
         return Ok(false);
     }
     let wanted = function_type(plain(alloc, Base::Int), Items::new(alloc))?;
-    Ok(!compatible(ctype, &wanted))
+    let fits = compatible(ctype, &wanted);
+    drop(wanted);
+    Ok(!fits)
 }
 
 /// Tells the faults of a declaration of a name with linkage, which stands where it may not, or declares `main` with
@@ -189,12 +194,32 @@ pub fn keep_linkage(
     ensures state { OnOk result (found.new.state ≡ parts.kept_state name.now defines ctype found.old.state) }
 {
     let linkage = linkage_of(alloc, found, name, defines, ctype)?;
-    let told = copied(alloc, &linkage.ctype)?;
-    found
-        .state
-        .linked
-        .insert(copied_text(alloc, name)?, linkage)?;
+    let Ok(told) = copied(alloc, &linkage.ctype) else {
+        drop(linkage);
+        return Err(Memory);
+    };
+    let Ok(()) = add_linkage(alloc, found, name, linkage) else {
+        drop(told);
+        return Err(Memory);
+    };
     Ok(told)
+}
+
+/// Keeps what the declarations of a name with linkage tell, behind what was kept before.
+fn add_linkage(
+    alloc: Global,
+    found: &mut Found,
+    name: &Text,
+    linkage: Linkage,
+) -> Result<(), Memory>
+    ensures faults { found.new.faults ≡ found.old.faults }
+    ensures state { OnOk result (found.new.state ≡ record found.old.state { linked = found.old.state.linked ++ (name.now, linkage) ∷ [] }) }
+{
+    let Ok(name) = copied_text(alloc, name) else {
+        drop(linkage);
+        return Err(Memory);
+    };
+    found.state.linked.insert(name, linkage)
 }
 
 /// Declares a name with linkage, with the type that all its declarations tell.

@@ -16,7 +16,10 @@ pub fn one<T: Drop>(alloc: Global, item: T) -> Result<Items<T>, Memory>
     ensures { IfOk result (λ items. items ≡ item ∷ []) }
 {
     let mut items = Items::new(alloc);
-    items.push(item)?;
+    if items.push(item).is_err() {
+        drop(items);
+        return Err(Memory);
+    }
     Ok(items)
 }
 
@@ -31,9 +34,17 @@ pub fn both<T: Drop>(
 ) -> Result<Option<Items<T>>, Memory>
     ensures { IfOk result (λ items. items ≡ rows.both first then) }
 {
-    let (Some(mut first), Some(then)) = (first, then) else {
+    let Some(mut first) = first else {
+        drop(then);
         return Ok(None);
     };
-    first.append(then)?;
+    let Some(then) = then else {
+        drop(first);
+        return Ok(None);
+    };
+    if first.append(then).is_err() {
+        drop(first);
+        return Err(Memory);
+    }
     Ok(Some(first))
 }

@@ -10,7 +10,7 @@ ghost use Rattle.c_type_walk.specs.Walks.{Walks};
 use c_layout::{Tags, align, size};
 use c_tree::typed::{CType, Derived, Object, StaticObject, StaticPart};
 use c_tree::{FaultKind, Pos};
-use c_type_rules::{TypeShape, derived_from, in_word, is_constant, scalar_of, shape};
+use c_type_rules::{TypeShape, copied, derived_from, in_word, is_constant, scalar_of, shape};
 use c_type_walk::{Around, Found};
 use c_typing::{Local, State};
 use std::alloc::Global;
@@ -70,25 +70,26 @@ pub(crate) fn is_open_array(ctype: &CType) -> bool
 pub(crate) fn counted(alloc: Global, ctype: CType, count: u64) -> Result<CType, Memory>
     ensures { IfOk result (λ r. r ≡ spec.counted ctype count) }
 {
-    match shape(&ctype) {
-        TypeShape::ArrayOf(None, element) => {
-            derived_from(element.copied(alloc)?, Derived::Array(Some(count)))
-        }
-        _ => Ok(ctype),
-    }
+    let TypeShape::ArrayOf(None, element) = shape(&ctype) else {
+        return Ok(ctype);
+    };
+    let element = element.copied(alloc);
+    drop(ctype);
+    derived_from(element?, Derived::Array(Some(count)))
 }
 
 /// The whole has at most 2^24 bytes, where the initialiser has told its size.
 pub(crate) fn sized_row(
+    alloc: Global,
     found: &mut Found,
     around: &Around<'_>,
     at: Pos,
-    ctype: CType,
+    ctype: &CType,
 ) -> Result<Option<CType>, Memory>
-    ensures { Walks (spec.sized_row at ctype) around.now found.old result found.new }
+    ensures { Walks (spec.sized_row at ctype.now) around.now found.old result found.new }
 {
-    if size(&ctype, &found.state.structs).unwrap_or(0) > MOST_BYTES {
+    if size(ctype, &found.state.structs).unwrap_or(0) > MOST_BYTES {
         return found.tell(around, FaultKind::TooLarge, at);
     }
-    Ok(Some(ctype))
+    Ok(Some(copied(alloc, ctype)?))
 }

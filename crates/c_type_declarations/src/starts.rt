@@ -3,6 +3,8 @@
 
 ghost use Rattle.std.specs.Option.{option_copied};
 ghost use Rattle.c_typing.specs.Declarations as spec;
+ghost use Rattle.c_typing.specs.Declarators as declarators;
+ghost use Rattle.c_typing.specs.Initialisers.{initialiser_typing};
 ghost use Rattle.c_type_walk.specs.Walks.{Walks};
 ghost use Rattle.c_type_declarations.specs.Starting.{starting};
 
@@ -10,8 +12,10 @@ use crate::objects::is_open_array;
 use c_tree::typed::{CType, TStmt};
 use c_tree::{FaultKind, Initialiser, Pos};
 use c_type_declarators::complete_row;
-use c_type_initialisers::first_of_initialiser;
+use c_type_initialisers::{fill, first_of_initialiser};
+use c_type_rules::copied;
 use c_type_walk::{Around, Found};
+use c_typing::Filled;
 use std::alloc::Global;
 use word_ops::{Items, Memory};
 
@@ -51,4 +55,38 @@ pub(crate) fn fillable_row(
         return Ok(Some(ctype));
     }
     complete_row(found, around, at, ctype)
+}
+
+/// Whether a type that is kept elsewhere is complete.
+///
+/// # Errors
+///
+/// `Memory` where memory is wanting.
+pub(crate) fn completed_row(
+    alloc: Global,
+    found: &mut Found,
+    around: &Around<'_>,
+    at: Pos,
+    ctype: &CType,
+) -> Result<Option<CType>, Memory>
+    ensures { Walks (declarators.complete_row at ctype.now) around.now found.old result found.new }
+{
+    complete_row(found, around, at, copied(alloc, ctype)?)
+}
+
+/// What an initialiser fills of a type that is kept elsewhere.
+///
+/// # Errors
+///
+/// `Memory` where memory is wanting.
+pub(crate) fn filled_row(
+    alloc: Global,
+    found: &mut Found,
+    around: &Around<'_>,
+    start: &Initialiser,
+    ctype: &CType,
+) -> Result<Option<Filled>, Memory>
+    ensures { Walks ((initialiser_typing start.now).fill 0 ctype.now) around.now found.old result found.new }
+{
+    fill(alloc, found, around, start, 0, copied(alloc, ctype)?)
 }

@@ -1,27 +1,27 @@
 //! Declarations of static objects of functions (C11 6.2.4p3).
 //! Rows from the type of a declarator on; its initialiser is walked over by c_type_initialisers.
 
-ghost use Rattle.std.specs.Prelude.{◌≡◌, ◌++◌, [], IfOk, OnOk, Some, None, is_some, slice_set};
+ghost use Rattle.std.specs.Prelude.{◌≡◌, ◌++◌, ◌∷◌, [], IfOk, OnOk, Some, None, is_some, slice_set};
 ghost use Rattle.std.specs.Option.{option_copied};
 ghost use Rattle.c_typing.specs.Declarations as spec;
 ghost use Rattle.c_typing.specs.Initialisers.{initialiser_typing};
 ghost use Rattle.c_typing.specs.Scopes as scopes;
 ghost use Rattle.c_tree.specs.declared.refusal.FaultKind.TheVariants as kind;
+ghost use Rattle.c_typing.specs.declared.scope.Meaning.TheVariants as meaning;
 ghost use Rattle.c_type_walk.specs.Walks.{Walks, fixed};
 ghost use Rattle.c_type_declarations.specs.Slots.{static_place, static_declared};
 ghost use Rattle.c_type_declarations.specs.Starting.{starting};
 
 use crate::objects::{counted, sized_row, static_object};
-use crate::starts::fillable_row;
+use crate::starts::{completed_row, fillable_row, filled_row};
 use c_tree::typed::{CType, StaticPart, TStmt};
 use c_tree::{FaultKind, Identifier, Initialiser};
-use c_type_declarators::complete_row;
-use c_type_initialisers::{fill, starts_row};
+use c_type_initialisers::starts_row;
 use c_type_rules::copied;
 use c_type_walk::{Around, Found};
 use c_typing::{Filled, Meaning};
 use std::alloc::Global;
-use word_ops::{Items, Memory};
+use word_ops::{Items, Memory, Text};
 
 /// Which static object of the unit one is.
 #[derive(Clone, Copy)]
@@ -47,7 +47,10 @@ pub(crate) fn static_row(
 ) -> Result<Option<Items<TStmt>>, Memory>
     ensures { Walks (spec.static_row name.now ctype (starting (option_copied start.entry))) around.now found.old result found.new }
 {
-    let place = static_begun(alloc, found, around, name, &ctype)?;
+    let Ok(place) = static_begun(alloc, found, around, name, &ctype) else {
+        drop(ctype);
+        return Err(Memory);
+    };
     match start {
         None => unstarted(alloc, found, around, name, place, ctype),
         Some(start) => started(alloc, found, around, name, place, ctype, start),
@@ -72,8 +75,7 @@ fn static_begun(
     let again = copied(alloc, ctype)?;
     let object = static_object(&found.state.structs, again, Items::new(alloc));
     found.state.statics.push(object)?;
-    let meaning = Meaning::Static(copied(alloc, ctype)?, place.number);
-    found.declare(alloc, &name.text, meaning)?;
+    declare_static(alloc, found, &name.text, ctype, place.number)?;
     Ok(place)
 }
 
@@ -100,10 +102,15 @@ fn unstarted(
 ) -> Result<Option<Items<TStmt>>, Memory>
     ensures { Walks (spec.static_start name.now place.number place.index None ctype) around.now found.old result found.new }
 {
-    let again = copied(alloc, &ctype)?;
-    let Some(_) = complete_row(found, around, name.place, again)? else {
+    let Ok(complete) = completed_row(alloc, found, around, name.place, &ctype) else {
+        drop(ctype);
+        return Err(Memory);
+    };
+    let Some(complete) = complete else {
+        drop(ctype);
         return Ok(None);
     };
+    drop(complete);
     Ok(Some(static_set(alloc, found, place, ctype, Items::new(alloc))))
 }
 
@@ -122,7 +129,12 @@ fn started(
     let Some(ctype) = fillable_row(found, around, name.place, ctype)? else {
         return Ok(None);
     };
-    let Some(filled) = fill(alloc, found, around, start, 0, copied(alloc, &ctype)?)? else {
+    let Ok(filled) = filled_row(alloc, found, around, start, &ctype) else {
+        drop(ctype);
+        return Err(Memory);
+    };
+    let Some(filled) = filled else {
+        drop(ctype);
         return Ok(None);
     };
     static_filled(alloc, found, around, name, place, ctype, filled)
@@ -140,15 +152,47 @@ fn static_filled(
 ) -> Result<Option<Items<TStmt>>, Memory>
     ensures { Walks (spec.static_filled name.now ctype place.number place.index filled) around.now found.old result found.new }
 {
-    let ctype = counted(alloc, ctype, filled.count)?;
-    let sized = sized_row(found, around, name.place, copied(alloc, &ctype)?)?;
-    let meaning = Meaning::Static(copied(alloc, &ctype)?, place.number);
-    found.declare(alloc, &name.text, meaning)?;
-    let parts = starts_row(alloc, found, around, filled.leaves)?;
-    let (Some(_), Some(parts)) = (sized, parts) else {
+    let Ok(ctype) = counted(alloc, ctype, filled.count) else {
+        drop(filled);
+        return Err(Memory);
+    };
+    let Ok(sized) = sized_row(alloc, found, around, name.place, &ctype) else {
+        drop((ctype, filled));
+        return Err(Memory);
+    };
+    let Ok(()) = declare_static(alloc, found, &name.text, &ctype, place.number) else {
+        drop((ctype, filled, sized));
+        return Err(Memory);
+    };
+    let Ok(parts) = starts_row(alloc, found, around, filled.leaves) else {
+        drop((ctype, sized));
+        return Err(Memory);
+    };
+    let Some(sized) = sized else {
+        drop((ctype, parts));
+        return Ok(None);
+    };
+    drop(sized);
+    let Some(parts) = parts else {
+        drop(ctype);
         return Ok(None);
     };
     Ok(Some(static_set(alloc, found, place, ctype, parts)))
+}
+
+/// Makes a static object visible.
+fn declare_static(
+    alloc: Global,
+    found: &mut Found,
+    name: &Text,
+    ctype: &CType,
+    number: u32,
+) -> Result<(), Memory>
+    ensures faults { found.new.faults ≡ found.old.faults }
+    ensures state { OnOk result (found.new.state ≡ record found.old.state { names = found.old.state.names ++ (name.now, meaning.Static ctype.now number) ∷ [] }) }
+{
+    let meaning = Meaning::Static(copied(alloc, ctype)?, number);
+    found.declare(alloc, name, meaning)
 }
 
 /// Keeps what is known of a static object at its end. Takes no memory.
@@ -166,6 +210,8 @@ fn static_set(
     let object = static_object(&found.state.structs, ctype, parts);
     if place.index < found.state.statics.len() {
         found.state.statics.set(place.index, object);
+    } else {
+        drop(object);
     }
     Items::new(alloc)
 }

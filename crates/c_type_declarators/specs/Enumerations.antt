@@ -1,6 +1,6 @@
 -- How the definition of typing begins an enumeration, before its enumerators, and what it makes of an enumerator whose
 -- expression has been read.
-use Rattle.std.specs.Prelude.{ℕ, Option, Some, None, is_some}
+use Rattle.std.specs.Prelude.{ℕ, false, Option, Some, None, is_some}
 use Rattle.c_tree.specs.declared.expression.Identifier.{Identifier}
 use Rattle.c_tree.specs.declared.refusal.FaultKind.TheVariants as kind
 use Rattle.c_tree.specs.declared.token.Pos.{Pos}
@@ -13,7 +13,7 @@ use Rattle.c_typing.specs.Declarators.{enumerator_declared, enumerator_value, ad
 abbrev pub enum_numbered : Option Identifier → ℕ → Walk ℕ
 enum_numbered None n = give n
 enum_numbered (Some tag) n = here (λ c s.
-    beside (fault_if (is_some (own_tag c s tag.text)) kind.Redeclared tag.place) (tagging tag.text (EnumTag n) (give n)))
+    beside (fault_if (is_some (own_tag c s tag.text)) kind.Redeclared tag.place) (tagging tag.text (EnumTag n false) (give n)))
 
 abbrev pub enum_begun : Option Identifier → Walk ℕ
 enum_begun tag = here (λ c s. change add_enum (enum_numbered tag s.enums))

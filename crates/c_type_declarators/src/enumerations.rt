@@ -9,13 +9,16 @@ ghost use Rattle.c_type_walk.specs.Walks.{Walks};
 ghost use Rattle.c_type_declarators.specs.Enumerations as enumerations;
 
 use crate::constants::{LEAST_NEGATIVE, constant_row};
+use c_tree::typed::{Base, CType};
 use c_tree::{FaultKind, Identifier, Pos};
+use c_type_rules::plain;
 use c_type_walk::{Around, Found};
 use c_typing::{Meaning, Operand, Tag};
 use std::alloc::Global;
 use word_ops::Memory;
 
-/// The number of a new enumerated type, which its tag stands for from here on, where it has one (C11 6.7.2.3p4).
+/// The number of a new enumerated type, which its tag stands for from here on, where it has one (C11 6.7.2.3p4); the type is
+/// not complete before its list ends.
 ///
 /// # Errors
 ///
@@ -36,9 +39,30 @@ pub fn enum_begun(
     if let Some(tag) = tag {
         let stood = found.own_tag(around, &tag.text).is_some();
         found.tell_if(stood, FaultKind::Redeclared, tag.place)?;
-        found.declare_tag(alloc, &tag.text, Tag::EnumTag(number))?;
+        found.declare_tag(alloc, &tag.text, Tag::EnumTag(number, false))?;
     }
     Ok(Some(number))
+}
+
+/// The enumerated type of this number, behind its list: what its tag stands for is complete (C11 6.7.2.2p4).
+///
+/// # Errors
+///
+/// `Memory` where memory is wanting.
+pub fn enum_ended(
+    alloc: Global,
+    found: &mut Found,
+    around: &Around<'_>,
+    tag: Option<&Identifier>,
+    number: u32,
+) -> Result<Option<CType>, Memory>
+    ensures { Walks (spec.enum_ended (option_copied tag.entry) number) around.now found.old result found.new }
+{
+    let _around = around;
+    if let Some(tag) = tag {
+        found.declare_tag(alloc, &tag.text, Tag::EnumTag(number, true))?;
+    }
+    Ok(Some(plain(alloc, Base::Enum(number))))
 }
 
 /// An enumerator without an expression: its value is greater by 1 than that of the one before it (C11 6.7.2.2p3).

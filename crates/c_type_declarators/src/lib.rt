@@ -18,9 +18,11 @@ mod tags;
 mod words;
 
 pub use constants::{constant_row, count_row};
-pub use derivations::{complete_row, declarator_parts, derive, pointing};
+pub use derivations::{
+    array_part, complete_row, declarator_parts, derive, function_part, pointing,
+};
 pub use enumerations::{
-    declared_enumerator, enum_begun, following_number, plain_enumerator, valued_enumerator,
+    declared_enumerator, enum_begun, enum_ended, following_number, plain_enumerator, valued_enumerator,
 };
 pub use names::{copied_identifier, name_place};
 pub use parameters::{

@@ -9,7 +9,7 @@ ghost use Rattle.c_typing.specs.Types as types;
 ghost use Rattle.c_type_walk.specs.Walks.{Walks};
 ghost use Rattle.c_type_declarators.specs.Parameters as parameters;
 
-use crate::derivations::complete_row;
+use crate::derivations::complete_parameter;
 use crate::names::copied_identifier;
 use c_tree::typed::CType;
 use c_tree::{FaultKind, Identifier, Pos, Storage};
@@ -45,7 +45,7 @@ pub fn parameter_basis(
     Ok(Some(basis))
 }
 
-/// The type of a parameter as adjusted, which is complete (C11 6.7.6.3p4, p7).
+/// The type of a parameter as adjusted, which is complete, and is told all the same where it is not (C11 6.7.6.3p4, p7).
 ///
 /// # Errors
 ///
@@ -57,10 +57,10 @@ pub fn adjusted_parameter(
     at: Pos,
     ctype: CType,
 ) -> Result<Option<CType>, Memory>
-    ensures { Walks (spec.complete_row at (spec.adjusted (types.shape ctype) ctype)) around.now found.old result found.new }
+    ensures { Walks (spec.complete_parameter at (spec.adjusted (types.shape ctype) ctype)) around.now found.old result found.new }
 {
     let ctype = adjusted(alloc, ctype)?;
-    complete_row(found, around, at, ctype)
+    complete_parameter(found, around, at, ctype)
 }
 
 /// A parameter of array type is a pointer to the elements (C11 6.7.6.3p7).

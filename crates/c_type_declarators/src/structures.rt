@@ -1,7 +1,7 @@
 //! Structures (C11 6.7.2.1).
 //! Rows: a structure begins, and ends with its members, from their names and types.
 
-ghost use Rattle.std.specs.Prelude.{◌≡◌, ◌++◌, [], length, nat_lt, true, IfOk, OnOk};
+ghost use Rattle.std.specs.Prelude.{◌≡◌, ◌++◌, [], length, slice_set, nat_lt, true, IfOk, OnOk};
 ghost use Rattle.std.specs.List.{list_any};
 ghost use Rattle.std.specs.Option.{option_copied, option_map};
 ghost use Rattle.c_typing.specs.Declarators as spec;
@@ -15,7 +15,7 @@ use crate::names::copied_identifier;
 use c_layout::{StructLayout, lay_out};
 use c_tree::typed::{Base, CType};
 use c_tree::{FaultKind, Identifier, Pos};
-use c_type_rules::{copied, plain};
+use c_type_rules::{copied, is_read_only, plain};
 use c_type_walk::{Around, Found, copied_text};
 use c_typing::Tag;
 use std::alloc::Global;
@@ -36,7 +36,7 @@ pub fn struct_begun(
     ensures { Walks (spec.struct_begun (option_copied tag.entry)) around.now found.old result found.new }
 {
     let Some(tag) = tag else {
-        return Ok(Some(found.state.structs.declare()?));
+        return Ok(Some(new_struct(found)?));
     };
     match found.own_tag(around, &tag.text) {
         None => begin_new(alloc, found, around, tag),
@@ -48,6 +48,17 @@ pub fn struct_begun(
     }
 }
 
+/// The number of a new structure type, which has no members yet.
+pub(crate) fn new_struct(found: &mut Found) -> Result<u32, Memory>
+    ensures number { IfOk result (λ n. n ≡ length found.old.state.structs) }
+    ensures faults { found.new.faults ≡ found.old.faults }
+    ensures state { OnOk result (found.new.state ≡ spec.add_struct found.old.state) }
+{
+    let number = found.state.structs.declare()?;
+    found.state.fixed.push(false)?;
+    Ok(number)
+}
+
 /// The list of members of a new structure type begins.
 fn begin_new(
     alloc: Global,
@@ -57,7 +68,7 @@ fn begin_new(
 ) -> Result<Option<u32>, Memory>
     ensures { Walks (spec.begin_new tag.now) around.now found.old result found.new }
 {
-    let number = found.state.structs.declare()?;
+    let number = new_struct(found)?;
     begin(alloc, found, around, tag, number)
 }
 
@@ -192,6 +203,25 @@ fn completed(
     if layout.size > MOST_BYTES {
         return found.tell(around, FaultKind::TooLarge, at);
     }
+    let fixed = has_fixed(&found.state.fixed, &layout);
     found.state.structs.set(number, layout);
+    set_fixed(&mut found.state.fixed, number, fixed);
     Ok(Some(plain(alloc, Base::Struct(number))))
+}
+
+/// Whether a member of a structure is `const`, or has a member or an element that is (C11 6.3.2.1p1).
+fn has_fixed(fixed: &Items<bool>, layout: &StructLayout) -> bool
+    ensures { result ≡ spec.has_fixed fixed.now layout.now }
+{
+    let members = layout.members.as_slice();
+    members.iter().any(|member| is_read_only(fixed, &member.ctype))
+}
+
+/// Keeps of a structure type, where there is one of this number, whether an object of it may be modified.
+fn set_fixed(all: &mut Items<bool>, number: u32, fixed: bool)
+    ensures { all.new ≡ slice_set all.old number fixed }
+{
+    if (number as usize) < all.len() {
+        all.set(number as usize, fixed);
+    }
 }

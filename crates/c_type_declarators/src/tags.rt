@@ -6,6 +6,7 @@ ghost use Rattle.c_type_walk.specs.Walks.{Walks};
 
 use c_tree::typed::{Base, CType};
 use c_tree::{FaultKind, Identifier};
+use crate::structures::new_struct;
 use c_type_rules::plain;
 use c_type_walk::{Around, Found};
 use c_typing::Tag;
@@ -34,7 +35,7 @@ pub fn struct_tag_row(
     };
     match meant {
         Some(Tag::StructTag(number, _)) => Ok(Some(plain(alloc, Base::Struct(number)))),
-        Some(Tag::EnumTag(_)) => found.tell(around, FaultKind::Redeclared, tag.place),
+        Some(Tag::EnumTag(_, _)) => found.tell(around, FaultKind::Redeclared, tag.place),
         None => declared_struct(alloc, found, around, tag),
     }
 }
@@ -48,12 +49,12 @@ fn declared_struct(
 ) -> Result<Option<CType>, Memory>
     ensures { Walks (spec.struct_meant tag.now None) around.now found.old result found.new }
 {
-    let number = found.state.structs.declare()?;
+    let number = new_struct(found)?;
     found.declare_tag(alloc, &tag.text, Tag::StructTag(number, false))?;
     Ok(Some(plain(alloc, Base::Struct(number))))
 }
 
-/// `enum` and a tag, which is visible and stands for an enumerated type (C11 6.7.2.3p3).
+/// `enum` and a tag, which is visible and stands for an enumerated type whose list has ended (C11 6.7.2.3p3).
 ///
 /// # Errors
 ///
@@ -67,7 +68,8 @@ pub fn enum_tag_row(
     ensures { Walks (spec.enum_tag_row tag.now) around.now found.old result found.new }
 {
     match found.tag(&tag.text) {
-        Some(Tag::EnumTag(number)) => Ok(Some(plain(alloc, Base::Enum(number)))),
+        Some(Tag::EnumTag(number, true)) => Ok(Some(plain(alloc, Base::Enum(number)))),
+        Some(Tag::EnumTag(_, false)) => found.tell(around, FaultKind::Incomplete, tag.place),
         Some(Tag::StructTag(_, _)) => found.tell(around, FaultKind::Redeclared, tag.place),
         None => found.tell(around, FaultKind::Undeclared, tag.place),
     }

@@ -13,7 +13,7 @@ ghost use Rattle.c_type_walk.specs.Walks.{Walks};
 
 use crate::refusals::refused;
 use crate::stand_in::{combined_types, takes_back, value_type};
-use crate::writing::changing_row;
+use crate::writing::target_row;
 use c_layout::Tags;
 use c_tree::typed::{Base, CType, Given, Increment, Primary, TExpr, Unary};
 use c_tree::{FaultKind, Mark, Pos, Punct};
@@ -40,7 +40,7 @@ pub fn increment_row(
 ) -> Result<Option<Operand>, Memory>
     ensures { Walks (spec.increment_row mark given operand) around.now found.old result found.new }
 {
-    let Some(operand) = changing_row(found, around, mark.place, operand)? else {
+    let Some(operand) = target_row(found, around, mark.place, operand)? else {
         return Ok(None);
     };
     let Ok(row) = stepped(alloc, &found.state.structs, mark.punct, &operand) else {

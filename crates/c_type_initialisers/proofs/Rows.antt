@@ -11,8 +11,7 @@ use Rattle.c_tree.specs.declared.typed.expression.Step.TheVariants as step
 use Rattle.c_tree.specs.declared.typed.expression.Step.TheBlock.{hidden-the_row-Step-1}
 use Rattle.c_layout.specs.Constants.{constant_of, constant_after}
 use Rattle.c_typing.specs.declared.initialiser.Address.{Address}
-use Rattle.c_typing.specs.Starts.{address_of, stepped_address, unary_address, binary_address}
-use Rattle.c_type_initialisers.specs.Steps.{after_steps}
+use Rattle.c_typing.specs.Starts.{address_of, stepped_address, unary_address, binary_address, after_steps, is_null_pointer, is_null_behind}
 
 steps-row : (sizes : ℕ → ℕ) (e : TExpr) (done : List Step) (n : _) (r : Row_of-Step n) (a : Option Address) →
     stepped_address sizes e done r a ≡ after_steps sizes e done (items-the_row-Step n r) a
@@ -28,3 +27,7 @@ unfolding Rattle.c_tree.specs.declared.typed.expression.Step.TheBlock.hidden-the
 address-Applied sizes t a steps =
     steps-row sizes a [] _ (hidden-the_row-Step-1 steps) (address_of sizes a)
     ∙ ap (λ steps. after_steps sizes a [] steps (address_of sizes a)) (items_hidden-the_row-Step-1 steps)
+
+pub null-Applied : (t : CType) (a : TExpr) (steps : List Step) → is_null_pointer (x.Applied t a steps) ≡ is_null_behind a steps
+unfolding Rattle.c_tree.specs.declared.typed.expression.Step.TheBlock.hidden-the_row-TExpr-0 denote.Hole.Carrier.hidden
+null-Applied t a steps = ap (is_null_behind a) (items_hidden-the_row-Step-1 steps)

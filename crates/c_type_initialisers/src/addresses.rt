@@ -4,7 +4,6 @@
 ghost use Rattle.std.specs.Prelude.{◌≡◌, []};
 ghost use Rattle.std.specs.Option.{option_and_then};
 ghost use Rattle.c_layout.specs.Constants.{constant_of, constant_after};
-ghost use Rattle.c_type_initialisers.specs.Steps.{after_step, after_steps};
 ghost use Rattle.c_type_walk.specs.Walks.{fixed};
 ghost use Rattle.c_typing.specs.Starts as spec;
 
@@ -12,7 +11,7 @@ use crate::sizes::static_size;
 use c_layout::{constant, constant_after};
 use c_tree::typed::{Arithmetic, Conversion, Primary, Sign, Step, Stride, TExpr, Unary};
 use c_type_walk::{Around, Found};
-use c_typing::Address;
+use c_typing::{Address, Operand};
 
 /// The place in a static object that an expression is the address of, by constant indices, members, offsets and conversions
 /// of pointers; or `None` exactly where it is none (C11 6.6p9).
@@ -39,6 +38,18 @@ pub(crate) fn address_of(tree: &TExpr, found: &Found, around: &Around<'_>) -> Op
     }
 }
 
+/// The place in a static object that an operand is the address of, or `None` exactly where it is none.
+pub(crate) fn operand_address(
+    operand: &Operand,
+    found: &Found,
+    around: &Around<'_>,
+) -> Option<Address>
+    ensures { result ≡ spec.operand_address (spec.static_size (fixed around.now) found.now.state) operand.now }
+{
+    let start = address_of(&operand.base, found, around);
+    stepped_address(operand.steps.as_slice(), &operand.base, found, around, start)
+}
+
 /// What steps behind an expression make of its address.
 #[cycle(addresses)]
 fn stepped_address(
@@ -48,7 +59,7 @@ fn stepped_address(
     around: &Around<'_>,
     start: Option<Address>,
 ) -> Option<Address>
-    ensures { result ≡ after_steps (spec.static_size (fixed around.now) found.now.state) first.now [] steps.now start }
+    ensures { result ≡ spec.after_steps (spec.static_size (fixed around.now) found.now.state) first.now [] steps.now start }
 {
     let mut address = start;
     for (at, step) in steps.iter().enumerate() {
@@ -66,7 +77,7 @@ fn step_address(
     around: &Around<'_>,
     address: Option<Address>,
 ) -> Option<Address>
-    ensures { result ≡ after_step (spec.static_size (fixed around.now) found.now.state) first.now done.now step.now address }
+    ensures { result ≡ spec.after_step (spec.static_size (fixed around.now) found.now.state) first.now done.now step.now address }
 {
     match step {
         Step::Unary(unary) => unary_address(found, around, unary, address),

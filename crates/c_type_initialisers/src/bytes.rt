@@ -34,6 +34,7 @@ pub(crate) fn text_parts(
     ensures { IfOk result (λ parts. parts ≡ spec.text_parts offset bytes) }
 {
     if bytes.as_slice().is_empty() {
+        drop(bytes);
         Ok(Items::new(alloc))
     } else {
         one_part(alloc, StaticPart::Bytes(offset, bytes))
@@ -45,7 +46,10 @@ pub(crate) fn one_part(alloc: Global, part: StaticPart) -> Result<Items<StaticPa
     ensures { IfOk result (λ parts. parts ≡ part ∷ []) }
 {
     let mut parts = Items::new(alloc);
-    parts.push(part)?;
+    if parts.push(part).is_err() {
+        drop(parts);
+        return Err(Memory);
+    }
     Ok(parts)
 }
 

@@ -72,14 +72,22 @@ pub(crate) fn descend(
         if whole.takes(&piece.ctype) {
             return Ok(piece);
         }
-        let Some(first) = part_by(alloc, tags, &piece.ctype, piece.offset, 0)? else {
+        let Ok(part) = part_by(alloc, tags, &piece.ctype, piece.offset, 0) else {
+            drop(piece);
+            return Err(Memory);
+        };
+        let Some(first) = part else {
             return Ok(piece);
         };
-        frames.push(Frame {
+        let frame = Frame {
             ctype: piece.ctype,
             offset: piece.offset,
             passed: 1,
-        })?;
+        };
+        let Ok(()) = frames.push(frame) else {
+            drop(first);
+            return Err(Memory);
+        };
         piece = first;
     }
     Ok(piece)

@@ -1,16 +1,17 @@
 //! Expressions that initialise an object or a part of one (C11 6.7.9p11, p13, p14, p20).
 //! Walks over single expressions, by c_type_trees, and hands what they are to rows.
 
-ghost use Rattle.std.specs.Prelude.{◌≡◌, IfOk, Option, List, ℕ, is_some};
+ghost use Rattle.std.specs.Prelude.{◌≡◌, ◌∷◌, [], IfOk, Option, List, ℕ, is_some};
 ghost use Rattle.c_type_initialisers.specs.Stacks.{stack, placed};
 ghost use Rattle.c_type_rules.specs.Shapes.{lent};
 ghost use Rattle.c_type_walk.specs.Walks.{Walks};
 ghost use Rattle.c_typing.specs.OfInitialisers as spec;
+ghost use Rattle.c_typing.specs.declared.initialiser.Leaf.TheVariants as leaf;
 ghost use Rattle.c_typing.specs.Trees.{expr_typing};
 ghost use Rattle.c_typing.specs.Types as types;
 
 use crate::descent::{Whole, descend, is_character, takes_text};
-use crate::leaves::{leaves_of, one_leaf, text_row, wrong_at};
+use crate::leaves::{leaves_of, one_leaf, text_row, unfit_at, wrong_at};
 use c_layout::Tags;
 use c_tree::typed::CType;
 use c_tree::{Expr, Pos};
@@ -34,7 +35,9 @@ pub(crate) fn fill_single(
 {
     match shape(&ctype) {
         TypeShape::ArrayOf(count, element) => {
-            array_single(alloc, found, around, tree, offset, count, element)
+            let filled = array_single(alloc, found, around, tree, offset, count, element);
+            drop(ctype);
+            filled
         }
         _ => given_leaf(alloc, found, around, tree, offset, ctype),
     }
@@ -55,13 +58,14 @@ fn array_single(
     let place = first_token(tree);
     let Some(bytes) = literal(alloc, tree)? else {
         return match expr(alloc, found, around, tree)? {
-            Some(_) => wrong_at(alloc, found, around, place),
+            Some(operand) => unfit_at(alloc, found, around, place, operand),
             None => Ok(Some(one_leaf(alloc, Leaf::Wrong)?)),
         };
     };
     if is_character(element) {
         text_row(alloc, found, around, offset, place, bytes, count)
     } else {
+        drop(bytes);
         wrong_at(alloc, found, around, place)
     }
 }
@@ -76,7 +80,10 @@ fn given_leaf(
 ) -> Result<Option<Filled>, Memory>
     ensures { Walks (spec.given_leaf offset ctype (expr_typing tree.now)) around.now found.old result found.new }
 {
-    let value = expr(alloc, found, around, tree)?;
+    let Ok(value) = expr(alloc, found, around, tree) else {
+        drop(ctype);
+        return Err(Memory);
+    };
     Ok(Some(one_leaf(
         alloc,
         Leaf::Given {
@@ -100,9 +107,16 @@ pub(crate) fn expression_item(
 ) -> Result<Option<Items<Leaf>>, Memory>
     ensures { Walks (spec.expression_item (expr_typing tree.now) (stack frames.old) piece) around.now found.old (placed result frames.new) found.new }
 {
-    let literal = literal(alloc, tree)?;
+    let Ok(literal) = literal(alloc, tree) else {
+        drop(piece);
+        return Err(Memory);
+    };
     let first = first_token(tree);
-    if is_string_for(alloc, &found.state.structs, literal.is_some(), &piece)? {
+    let Ok(is_string) = is_string_for(alloc, &found.state.structs, literal.is_some(), &piece) else {
+        drop((literal, piece));
+        return Err(Memory);
+    };
+    if is_string {
         let string = Single {
             first,
             literal,
@@ -110,7 +124,10 @@ pub(crate) fn expression_item(
         };
         return expression_placed(alloc, found, around, string, frames, piece);
     }
-    let value = expr(alloc, found, around, tree)?;
+    let Ok(value) = expr(alloc, found, around, tree) else {
+        drop((literal, piece));
+        return Err(Memory);
+    };
     let single = Single {
         first,
         literal,
@@ -134,8 +151,20 @@ fn is_string_for(alloc: Global, tags: &Tags, is_string: bool, piece: &Piece) -> 
         offset: piece.offset,
         ctype: copied(alloc, &piece.ctype)?,
     };
-    let reached = descend(alloc, tags, whole, &mut Items::new(alloc), piece)?;
-    Ok(takes_text(&reached.ctype))
+    let reached = reached_alone(alloc, tags, whole, piece)?;
+    let is_taken = takes_text(&reached.ctype);
+    drop(reached);
+    Ok(is_taken)
+}
+
+/// The part of a part that an expression initialises, where no aggregate is open around it.
+fn reached_alone(alloc: Global, tags: &Tags, whole: Whole, piece: Piece) -> Result<Piece, Memory>
+    ensures { IfOk result (λ p. p ≡ (spec.descend spec.greatest_depth tags.now (spec.takes_whole whole.is_string whole.is_structure) [] piece).1) }
+{
+    let mut frames = Items::new(alloc);
+    let reached = descend(alloc, tags, whole, &mut frames, piece);
+    drop(frames);
+    reached
 }
 
 /// An expression in a list.
@@ -163,7 +192,10 @@ fn expression_placed(
         is_string: single.literal.is_some(),
         is_structure: is_struct_value(&single.value),
     };
-    let reached = descend(alloc, &found.state.structs, whole, frames, piece)?;
+    let Ok(reached) = descend(alloc, &found.state.structs, whole, frames, piece) else {
+        drop(single);
+        return Err(Memory);
+    };
     Ok(leaves_of(leaf_at(alloc, found, around, single, reached)?))
 }
 
@@ -192,14 +224,32 @@ fn leaf_at(
         literal,
         value,
     } = single;
-    if let (Some(bytes), TypeShape::ArrayOf(count, _)) = (literal, shape(&piece.ctype)) {
-        return text_row(alloc, found, around, piece.offset, first, bytes, count);
-    }
+    let Some(bytes) = literal else {
+        return Ok(Some(value_leaf(alloc, first, value, piece)?));
+    };
+    let TypeShape::ArrayOf(count, _) = shape(&piece.ctype) else {
+        drop(bytes);
+        return Ok(Some(value_leaf(alloc, first, value, piece)?));
+    };
+    let offset = piece.offset;
+    drop((value, piece));
+    text_row(alloc, found, around, offset, first, bytes, count)
+}
+
+/// A value for a part.
+fn value_leaf(
+    alloc: Global,
+    first: Pos,
+    value: Option<Operand>,
+    piece: Piece,
+) -> Result<Filled, Memory>
+    ensures { IfOk result (λ r. r ≡ record { leaves = leaf.Given piece.offset piece.ctype first value ∷ []; count = 1 }) }
+{
     let leaf = Leaf::Given {
         offset: piece.offset,
         ctype: piece.ctype,
         first,
         value,
     };
-    Ok(Some(one_leaf(alloc, leaf)?))
+    one_leaf(alloc, leaf)
 }

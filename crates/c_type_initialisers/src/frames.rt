@@ -22,10 +22,19 @@ pub(crate) fn next_piece(
     ensures open { OnOk result (stack frames.new ≡ (spec.next_piece tags.now (stack frames.old)).1) }
 {
     while let Some(frame) = frames.pop() {
-        if let Some(piece) = next_part(alloc, tags, &frame)? {
-            frames.push(passing(frame))?;
-            return Ok(Some(piece));
-        }
+        let Ok(part) = next_part(alloc, tags, &frame) else {
+            drop(frame);
+            return Err(Memory);
+        };
+        let Some(piece) = part else {
+            drop(frame);
+            continue;
+        };
+        let Ok(()) = frames.push(passing(frame)) else {
+            drop(piece);
+            return Err(Memory);
+        };
+        return Ok(Some(piece));
     }
     Ok(None)
 }

@@ -2,7 +2,7 @@
 //! Walks over the tree of an initialiser, item by item.
 
 ghost use Rattle.std.specs.Option.{option_copied, option_map};
-ghost use Rattle.std.specs.Prelude.{◌≡◌, map, IfOk, is_some};
+ghost use Rattle.std.specs.Prelude.{◌≡◌, ◌∷◌, [], map, IfOk, is_some};
 ghost use Rattle.c_type_initialisers.specs.Braced as braced;
 ghost use Rattle.c_type_initialisers.specs.Stacks.{stack, placed};
 ghost use Rattle.c_type_walk.specs.Walks.{Walks};
@@ -83,16 +83,32 @@ fn fill_list(
     if is_scalar(&ctype) {
         return scalar_list(alloc, found, around, list, items, offset, ctype);
     }
-    if let Some(string) = braced_string(alloc, &ctype, items)? {
+    let Ok(string) = braced_string(alloc, &ctype, items) else {
+        drop(ctype);
+        return Err(Memory);
+    };
+    if let Some(string) = string {
         return fill_single(alloc, found, around, string, offset, ctype);
     }
-    let mut frames = Items::new(alloc);
-    frames.push(Frame {
+    let frames = one_open(alloc, offset, ctype)?;
+    items_row(alloc, found, around, list, items, frames)
+}
+
+/// An object that begins to be filled, and no part of it.
+fn one_open(alloc: Global, offset: u32, ctype: CType) -> Result<Items<Frame>, Memory>
+    ensures { IfOk result (λ frames. frames ≡ record { ctype = ctype; offset = offset; passed = 0 } ∷ []) }
+{
+    let frame = Frame {
         ctype,
         offset,
         passed: 0,
-    })?;
-    items_row(alloc, found, around, list, items, frames)
+    };
+    let mut frames = Items::new(alloc);
+    if frames.push(frame).is_err() {
+        drop(frames);
+        return Err(Memory);
+    }
+    Ok(frames)
 }
 
 /// A scalar in braces has one item (C11 6.7.9p11).
@@ -109,6 +125,7 @@ fn scalar_list(
     ensures { Walks (spec.scalar_list list offset ctype (map initialiser_item_typing items.now)) around.now found.old result found.new }
 {
     let Some((only, more)) = items.split_first() else {
+        drop(ctype);
         return Ok(Some(one_leaf(alloc, Leaf::Wrong)?));
     };
     let filled = fill(alloc, found, around, &only.value, offset, ctype)?;
@@ -133,13 +150,21 @@ fn items_row(
     let mut frames = frames;
     let mut leaves = Items::new(alloc);
     for item in items {
-        let placed = item_row(alloc, found, around, list, &item.value, &mut frames)?;
+        let Ok(placed) = item_row(alloc, found, around, list, &item.value, &mut frames) else {
+            drop((frames, leaves));
+            return Err(Memory);
+        };
         let Some(more) = placed else {
+            drop((frames, leaves));
             return Ok(None);
         };
-        leaves.append(more)?;
+        let Ok(()) = leaves.append(more) else {
+            drop((frames, leaves));
+            return Err(Memory);
+        };
     }
     let count = passed_of(&frames);
+    drop(frames);
     Ok(Some(Filled { leaves, count }))
 }
 
@@ -208,5 +233,8 @@ fn string_if_fits<'a>(
 fn is_string(alloc: Global, tree: &Expr) -> Result<bool, Memory>
     ensures { IfOk result (λ r. r ≡ is_some (expr_typing tree.now).literal) }
 {
-    Ok(literal(alloc, tree)?.is_some())
+    let text = literal(alloc, tree)?;
+    let is_string = text.is_some();
+    drop(text);
+    Ok(is_string)
 }

@@ -2,7 +2,7 @@
 //! Rows: what an expression gives a part of a type.
 
 ghost use Rattle.std.specs.Option.{option_map};
-ghost use Rattle.std.specs.Prelude.{◌≡◌, ◌∷◌, [], Some, IfOk};
+ghost use Rattle.std.specs.Prelude.{◌≡◌, ◌∷◌, ◌++◌, [], Some, IfOk};
 ghost use Rattle.c_type_initialisers.specs.Braced as braced;
 ghost use Rattle.c_type_walk.specs.Walks.{Walks};
 ghost use Rattle.c_typing.specs.OfInitialisers as spec;
@@ -10,17 +10,30 @@ ghost use Rattle.c_typing.specs.declared.initialiser.Leaf.TheVariants as leaf;
 
 use c_tree::{FaultKind, Pos};
 use c_type_walk::{Around, Found};
-use c_typing::{Filled, Leaf};
+use c_typing::{Filled, Leaf, Operand};
 use std::alloc::Global;
 use word_ops::{Items, Memory, Text};
+
+/// One more part behind others.
+fn with_leaf(list: Items<Leaf>, leaf: Leaf) -> Result<Items<Leaf>, Memory>
+    ensures { IfOk result (λ longer. longer ≡ list ++ leaf ∷ []) }
+{
+    let mut list = list;
+    if list.push(leaf).is_err() {
+        drop(list);
+        return Err(Memory);
+    }
+    Ok(list)
+}
 
 /// One part alone.
 pub(crate) fn one_leaf(alloc: Global, leaf: Leaf) -> Result<Filled, Memory>
     ensures { IfOk result (λ r. r ≡ record { leaves = leaf ∷ []; count = 1 }) }
 {
-    let mut leaves = Items::new(alloc);
-    leaves.push(leaf)?;
-    Ok(Filled { leaves, count: 1 })
+    Ok(Filled {
+        leaves: with_leaf(Items::new(alloc), leaf)?,
+        count: 1,
+    })
 }
 
 /// Nothing that is right, and the fault that it is (C11 6.7.9p2, p11).
@@ -37,6 +50,24 @@ pub(crate) fn wrong_at(
     Ok(Some(one_leaf(alloc, Leaf::Wrong)?))
 }
 
+/// An expression that does not fit, and the fault that it is (C11 6.7.9p14).
+pub(crate) fn unfit_at(
+    alloc: Global,
+    found: &mut Found,
+    around: &Around<'_>,
+    place: Pos,
+    operand: Operand,
+) -> Result<Option<Filled>, Memory>
+    ensures { Walks (spec.unfit_at place operand) around.now found.old result found.new }
+{
+    let _around = around;
+    let Ok(()) = found.tell_if(true, FaultKind::Mismatch, place) else {
+        drop(operand);
+        return Err(Memory);
+    };
+    Ok(Some(one_leaf(alloc, Leaf::Unfit(place, operand))?))
+}
+
 /// The parts that the first of too many items filled, and the fault that the others are (C11 6.7.9p2).
 pub(crate) fn too_many(
     found: &mut Found,
@@ -50,10 +81,15 @@ pub(crate) fn too_many(
     let Some(filled) = filled else {
         return Ok(None);
     };
-    let mut leaves = filled.leaves;
-    found.tell_if(true, FaultKind::Mismatch, list)?;
-    leaves.push(Leaf::Wrong)?;
-    Ok(Some(Filled { leaves, count: 1 }))
+    let leaves = filled.leaves;
+    let Ok(()) = found.tell_if(true, FaultKind::Mismatch, list) else {
+        drop(leaves);
+        return Err(Memory);
+    };
+    Ok(Some(Filled {
+        leaves: with_leaf(leaves, Leaf::Wrong)?,
+        count: 1,
+    }))
 }
 
 /// A string for an array of so many characters; the zero byte at its end may be left out (C11 6.7.9p14).
@@ -75,6 +111,7 @@ pub(crate) fn text_row(
             if length <= count {
                 Ok(Some(text_filled(alloc, offset, bytes, count)?))
             } else {
+                drop(bytes);
                 wrong_at(alloc, found, around, place)
             }
         }
@@ -84,8 +121,7 @@ pub(crate) fn text_row(
 fn text_filled(alloc: Global, offset: u32, bytes: Text, count: u64) -> Result<Filled, Memory>
     ensures { IfOk result (λ r. r ≡ record { leaves = leaf.Text offset bytes ∷ []; count = count }) }
 {
-    let mut leaves = Items::new(alloc);
-    leaves.push(Leaf::Text(offset, bytes))?;
+    let leaves = with_leaf(Items::new(alloc), Leaf::Text(offset, bytes))?;
     Ok(Filled { leaves, count })
 }
 

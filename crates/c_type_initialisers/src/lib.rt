@@ -8,6 +8,7 @@
 
 mod addresses;
 mod bytes;
+mod constants;
 mod descent;
 mod expressions;
 mod frames;

@@ -13,7 +13,11 @@ pub(crate) fn reversed<T: Drop>(alloc: Global, list: Items<T>) -> Result<Items<T
     let mut list = list;
     let mut turned = Items::new(alloc);
     while let Some(last) = list.pop() {
-        turned.push(last)?;
+        if turned.push(last).is_err() {
+            drop((list, turned));
+            return Err(Memory);
+        }
     }
+    drop(list);
     Ok(turned)
 }

@@ -5,13 +5,15 @@ ghost use Rattle.std.specs.Prelude.{◌≡◌, IfOk};
 ghost use Rattle.c_type_initialisers.specs.Joined.{one_more};
 ghost use Rattle.c_type_walk.specs.Walks.{Walks};
 ghost use Rattle.c_typing.specs.Starts as spec;
+ghost use Rattle.c_typing.specs.declared.initialiser.Leaf.TheVariants as leaf;
 
 use crate::turns::reversed;
+use c_tree::Pos;
 use c_tree::typed::{CType, Initial, Initialiser};
 use c_type_expressions::given_row;
 use c_type_rules::scalar_of;
 use c_type_walk::{Around, Found};
-use c_typing::Leaf;
+use c_typing::{Leaf, Operand};
 use std::alloc::Global;
 use word_ops::{Items, Memory};
 
@@ -43,11 +45,17 @@ fn scalar_initialiser(initials: Items<Initial>) -> Option<Initialiser>
 {
     let mut initials = initials;
     if initials.is_empty() {
+        drop(initials);
         return None;
     }
-    match initials.remove(0) {
+    let first = initials.remove(0);
+    drop(initials);
+    match first {
         Initial::Value(_, scalar, tree) => Some(Initialiser::Scalar(scalar, tree)),
-        Initial::Bytes(_, _) => None,
+        Initial::Bytes(_, bytes) => {
+            drop(bytes);
+            None
+        }
     }
 }
 
@@ -63,9 +71,17 @@ fn initials_row(
     let mut rest = reversed(alloc, leaves)?;
     let mut initials = Some(Items::new(alloc));
     while let Some(leaf) = rest.pop() {
-        let initial = initial_row(alloc, found, around, leaf)?;
-        initials = with_initial(initials, initial)?;
+        let Ok(initial) = initial_row(alloc, found, around, leaf) else {
+            drop((rest, initials));
+            return Err(Memory);
+        };
+        let Ok(longer) = with_initial(initials, initial) else {
+            drop(rest);
+            return Err(Memory);
+        };
+        initials = longer;
     }
+    drop(rest);
     Ok(initials)
 }
 
@@ -76,10 +92,18 @@ fn with_initial(
 ) -> Result<Option<Items<Initial>>, Memory>
     ensures { IfOk result (λ r. r ≡ one_more initials initial) }
 {
-    let (Some(mut initials), Some(initial)) = (initials, initial) else {
+    let Some(mut initials) = initials else {
+        drop(initial);
         return Ok(None);
     };
-    initials.push(initial)?;
+    let Some(initial) = initial else {
+        drop(initials);
+        return Ok(None);
+    };
+    if initials.push(initial).is_err() {
+        drop(initials);
+        return Err(Memory);
+    }
     Ok(Some(initials))
 }
 
@@ -98,18 +122,40 @@ fn initial_row(
             first,
             value,
         } => {
-            let Some(operand) = value else {
-                return Ok(None);
-            };
-            let Some(tree) = given_row(alloc, found, around, first, &ctype, operand)? else {
-                return Ok(None);
-            };
-            match scalar_of(&ctype) {
-                Some(scalar) => Ok(Some(Initial::Value(offset, scalar, tree))),
-                None => Ok(None),
-            }
+            let initial = value_initial(alloc, found, around, first, offset, &ctype, value);
+            drop(ctype);
+            initial
         }
         Leaf::Text(offset, bytes) => Ok(Some(Initial::Bytes(offset, bytes))),
+        Leaf::Unfit(_, operand) => {
+            drop(operand);
+            Ok(None)
+        }
         Leaf::Wrong => Ok(None),
     }
+}
+
+/// A value for a part of this type, where no fault stands in it.
+fn value_initial(
+    alloc: Global,
+    found: &mut Found,
+    around: &Around<'_>,
+    first: Pos,
+    offset: u32,
+    ctype: &CType,
+    value: Option<Operand>,
+) -> Result<Option<Initial>, Memory>
+    ensures { Walks (spec.initial_row (leaf.Given offset ctype.now first value)) around.now found.old result found.new }
+{
+    let Some(operand) = value else {
+        return Ok(None);
+    };
+    let Some(tree) = given_row(alloc, found, around, first, ctype, operand)? else {
+        return Ok(None);
+    };
+    let Some(scalar) = scalar_of(ctype) else {
+        drop(tree);
+        return Ok(None);
+    };
+    Ok(Some(Initial::Value(offset, scalar, tree)))
 }

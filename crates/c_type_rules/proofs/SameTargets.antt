@@ -7,8 +7,8 @@ use Rattle.c_tree.specs.declared.typed.types.Base.{Base}
 use Rattle.c_tree.specs.declared.typed.types.Derived.{Derived}
 use Rattle.c_tree.specs.declared.typed.types.Derived.TheVariants as derived
 use Rattle.c_tree.specs.declared.typed.types.CType.{CType, out-CType}
-use Rattle.c_typing.specs.Types.{made, Shape, Basic, PointerTo, ArrayOf, FunctionOf, shape, shape_from, qualified_by, Counts, may_be_equal, base_number, same_truth, same_derived, all_same, agree, compatible, alike}
-use Rattle.c_type_rules.specs.Compatibility.{all_agree, same_base}
+use Rattle.c_typing.specs.Types.{made, Shape, Basic, PointerTo, ArrayOf, FunctionOf, shape, shape_from, bare_by, Comparison, may_be_equal, is_compatible_base, by_compatibility, same_truth, same_derived, all_same, agree, compatible, alike}
+use Rattle.c_type_rules.specs.Compatibility.{all_agree}
 use Rattle.c_type_rules.specs.declared.shapes.LentType.{LentType}
 use Rattle.c_type_rules.specs.declared.shapes.TypeShape.{TypeShape}
 use Rattle.c_type_rules.specs.declared.shapes.TypeShape.TheVariants as told
@@ -31,107 +31,97 @@ and_swap false b c = sym (and_false b)
 
 -- ---- the outermost derivations are compared last
 
-none_against : (counts : Counts) (es : List Derived) (e : Derived) → all_same counts [] (es ++ e ∷ []) ≡ false
-none_against counts [] e = refl
-none_against counts (d ∷ es) e = refl
+none_against : (by : Comparison) (es : List Derived) (e : Derived) → all_same by [] (es ++ e ∷ []) ≡ false
+none_against by [] e = refl
+none_against by (d ∷ es) e = refl
 
-against_none : (counts : Counts) (ds : List Derived) (d : Derived) → all_same counts (ds ++ d ∷ []) [] ≡ false
-against_none counts [] d = refl
-against_none counts (e ∷ ds) d = refl
+against_none : (by : Comparison) (ds : List Derived) (d : Derived) → all_same by (ds ++ d ∷ []) [] ≡ false
+against_none by [] d = refl
+against_none by (e ∷ ds) d = refl
 
-all_same-last : (counts : Counts) (ds es : List Derived) (d e : Derived) →
-    all_same counts (ds ++ d ∷ []) (es ++ e ∷ []) ≡ (same_derived counts d e && all_same counts ds es)
-all_same-last counts [] [] d e = refl
-all_same-last counts [] (f ∷ es) d e =
-    ap (λ (x : Bool). same_derived counts d f && x) (none_against counts es e) ∙ and_false (same_derived counts d f)
-    ∙ sym (and_false (same_derived counts d e))
-all_same-last counts (f ∷ ds) [] d e =
-    ap (λ (x : Bool). same_derived counts f e && x) (against_none counts ds d) ∙ and_false (same_derived counts f e)
-    ∙ sym (and_false (same_derived counts d e))
-all_same-last counts (f ∷ ds) (g ∷ es) d e =
-    ap (λ (x : Bool). same_derived counts f g && x) (all_same-last counts ds es d e)
-    ∙ and_swap (same_derived counts f g) (same_derived counts d e) (all_same counts ds es)
+all_same-last : (by : Comparison) (ds es : List Derived) (d e : Derived) →
+    all_same by (ds ++ d ∷ []) (es ++ e ∷ []) ≡ (same_derived by d e && all_same by ds es)
+all_same-last by [] [] d e = refl
+all_same-last by [] (f ∷ es) d e =
+    ap (λ (x : Bool). same_derived by d f && x) (none_against by es e) ∙ and_false (same_derived by d f)
+    ∙ sym (and_false (same_derived by d e))
+all_same-last by (f ∷ ds) [] d e =
+    ap (λ (x : Bool). same_derived by f e && x) (against_none by ds d) ∙ and_false (same_derived by f e)
+    ∙ sym (and_false (same_derived by d e))
+all_same-last by (f ∷ ds) (g ∷ es) d e =
+    ap (λ (x : Bool). same_derived by f g && x) (all_same-last by ds es d e)
+    ∙ and_swap (same_derived by f g) (same_derived by d e) (all_same by ds es)
 
 reverse-first : (ds : List Derived) (d : Derived) → reverse (d ∷ ds) ≡ reverse ds ++ d ∷ []
 reverse-first ds d = reverse-append (d ∷ []) ds
 
-agree-outermost : (counts : Counts) (b d : Base) (p q : Bool) (x y : Derived) (xs ys : List Derived) →
-    agree counts (made b p (reverse (x ∷ xs))) (made d q (reverse (y ∷ ys)))
-    ≡ (same_derived counts x y && agree counts (made b p (reverse xs)) (made d q (reverse ys)))
-agree-outermost counts b d p q x y xs ys =
-    let heads = (base_number b == base_number d) && same_truth p q in
-    ap (λ (l : List Derived). heads && all_same counts l (reverse (y ∷ ys))) (reverse-first xs x)
-    ∙ ap (λ (l : List Derived). heads && all_same counts (reverse xs ++ x ∷ []) l) (reverse-first ys y)
-    ∙ ap (λ (z : Bool). heads && z) (all_same-last counts (reverse xs) (reverse ys) x y)
-    ∙ and_swap heads (same_derived counts x y) (all_same counts (reverse xs) (reverse ys))
+agree-outermost : (by : Comparison) (b d : Base) (p q : Bool) (x y : Derived) (xs ys : List Derived) →
+    agree by (made b p (reverse (x ∷ xs))) (made d q (reverse (y ∷ ys)))
+    ≡ (same_derived by x y && agree by (made b p (reverse xs)) (made d q (reverse ys)))
+agree-outermost by b d p q x y xs ys =
+    let heads = by.bases b d && same_truth p q in
+    ap (λ (l : List Derived). heads && all_same by l (reverse (y ∷ ys))) (reverse-first xs x)
+    ∙ ap (λ (l : List Derived). heads && all_same by (reverse xs ++ x ∷ []) l) (reverse-first ys y)
+    ∙ ap (λ (z : Bool). heads && z) (all_same-last by (reverse xs) (reverse ys) x y)
+    ∙ and_swap heads (same_derived by x y) (all_same by (reverse xs) (reverse ys))
 
-none-agrees : (counts : Counts) (b d : Base) (p q : Bool) (y : Derived) (ys : List Derived) →
-    agree counts (made b p []) (made d q (reverse (y ∷ ys))) ≡ false
-none-agrees counts b d p q y ys =
-    let heads = (base_number b == base_number d) && same_truth p q in
-    ap (λ (l : List Derived). heads && all_same counts [] l) (reverse-first ys y)
-    ∙ ap (λ (z : Bool). heads && z) (none_against counts (reverse ys) y)
+none-agrees : (by : Comparison) (b d : Base) (p q : Bool) (y : Derived) (ys : List Derived) →
+    agree by (made b p []) (made d q (reverse (y ∷ ys))) ≡ false
+none-agrees by b d p q y ys =
+    let heads = by.bases b d && same_truth p q in
+    ap (λ (l : List Derived). heads && all_same by [] l) (reverse-first ys y)
+    ∙ ap (λ (z : Bool). heads && z) (none_against by (reverse ys) y)
     ∙ and_false heads
 
-agrees-none : (counts : Counts) (b d : Base) (p q : Bool) (x : Derived) (xs : List Derived) →
-    agree counts (made b p (reverse (x ∷ xs))) (made d q []) ≡ false
-agrees-none counts b d p q x xs =
-    let heads = (base_number b == base_number d) && same_truth p q in
-    ap (λ (l : List Derived). heads && all_same counts l []) (reverse-first xs x)
-    ∙ ap (λ (z : Bool). heads && z) (against_none counts (reverse xs) x)
+agrees-none : (by : Comparison) (b d : Base) (p q : Bool) (x : Derived) (xs : List Derived) →
+    agree by (made b p (reverse (x ∷ xs))) (made d q []) ≡ false
+agrees-none by b d p q x xs =
+    let heads = by.bases b d && same_truth p q in
+    ap (λ (l : List Derived). heads && all_same by l []) (reverse-first xs x)
+    ∙ ap (λ (z : Bool). heads && z) (against_none by (reverse xs) x)
     ∙ and_false heads
 
 -- ---- the types but for their qualifiers
 
 abbrev pub alike_by : Shape → Shape → Bool
-alike_by (Basic b) (Basic d) = same_base b d
+alike_by (Basic b) (Basic d) = is_compatible_base b d
 alike_by (PointerTo c t) (PointerTo k u) = compatible t u
-alike_by (ArrayOf m t) (ArrayOf n u) = may_be_equal m n && alike t u
-alike_by (FunctionOf ps t) (FunctionOf qs u) = all_agree may_be_equal ps qs && compatible t u
+alike_by (ArrayOf m t) (ArrayOf n u) = may_be_equal m n && compatible t u
+alike_by (FunctionOf ps t) (FunctionOf qs u) = all_agree by_compatibility ps qs && compatible t u
 alike_by _ _ = false
 
 -- a type without its qualifier, by its derivations, outermost first
-abbrev bare : Base → Bool → List Derived → CType
-bare b c ds = let q = qualified_by false c ds in made b q.0 (reverse q.1)
-
-bare-reversed : (b d : Base) (c k : Bool) (xs ys : List Derived) →
-    agree may_be_equal (bare b c xs) (bare d k ys) ≡ alike (made b c (reverse xs)) (made d k (reverse ys))
-bare-reversed b d c k xs ys =
-    ap (λ (l : List Derived). agree may_be_equal (bare b c l) (bare d k ys)) (sym (reverse-reverse xs))
-    ∙ ap (λ (l : List Derived). agree may_be_equal (bare b c (reverse (reverse xs))) (bare d k l)) (sym (reverse-reverse ys))
+abbrev bared : Base → Bool → List Derived → CType
+bared b c ds = let q = bare_by c ds in made b q.0 (reverse q.1)
 
 alike-derivations : (b d : Base) (c k : Bool) (xs ys : List Derived) →
-    agree may_be_equal (bare b c xs) (bare d k ys) ≡ alike_by (shape_from b c xs) (shape_from d k ys)
-alike-derivations b d c k [] [] = and_true _ ∙ and_true (same_base b d)
-alike-derivations b d c k [] (derived.Pointer j ∷ ys) = none-agrees may_be_equal b d false k (derived.Pointer false) ys
-alike-derivations b d c k [] (derived.Array n ∷ ys) =
-    let q = qualified_by false k ys in none-agrees may_be_equal b d false q.0 (derived.Array n) q.1
-alike-derivations b d c k [] (derived.Function' n r ∷ ys) = none-agrees may_be_equal b d false k (derived.Function' n r) ys
-alike-derivations b d c k (derived.Pointer i ∷ xs) [] = agrees-none may_be_equal b d c false (derived.Pointer false) xs
-alike-derivations b d c k (derived.Array m ∷ xs) [] =
-    let p = qualified_by false c xs in agrees-none may_be_equal b d p.0 false (derived.Array m) p.1
-alike-derivations b d c k (derived.Function' m r ∷ xs) [] = agrees-none may_be_equal b d c false (derived.Function' m r) xs
+    agree by_compatibility (bared b c xs) (bared d k ys) ≡ alike_by (shape_from b c xs) (shape_from d k ys)
+alike-derivations b d c k [] [] = and_true _ ∙ and_true (is_compatible_base b d)
+alike-derivations b d c k [] (derived.Pointer j ∷ ys) = none-agrees by_compatibility b d false k (derived.Pointer false) ys
+alike-derivations b d c k [] (derived.Array n ∷ ys) = none-agrees by_compatibility b d false k (derived.Array n) ys
+alike-derivations b d c k [] (derived.Function' n r ∷ ys) = none-agrees by_compatibility b d false k (derived.Function' n r) ys
+alike-derivations b d c k (derived.Pointer i ∷ xs) [] = agrees-none by_compatibility b d c false (derived.Pointer false) xs
+alike-derivations b d c k (derived.Array m ∷ xs) [] = agrees-none by_compatibility b d c false (derived.Array m) xs
+alike-derivations b d c k (derived.Function' m r ∷ xs) [] = agrees-none by_compatibility b d c false (derived.Function' m r) xs
 alike-derivations b d c k (derived.Pointer i ∷ xs) (derived.Pointer j ∷ ys) =
-    agree-outermost may_be_equal b d c k (derived.Pointer false) (derived.Pointer false) xs ys
+    agree-outermost by_compatibility b d c k (derived.Pointer false) (derived.Pointer false) xs ys
 alike-derivations b d c k (derived.Pointer i ∷ xs) (derived.Array n ∷ ys) =
-    let q = qualified_by false k ys in agree-outermost may_be_equal b d c q.0 (derived.Pointer false) (derived.Array n) xs q.1
+    agree-outermost by_compatibility b d c k (derived.Pointer false) (derived.Array n) xs ys
 alike-derivations b d c k (derived.Pointer i ∷ xs) (derived.Function' n s ∷ ys) =
-    agree-outermost may_be_equal b d c k (derived.Pointer false) (derived.Function' n s) xs ys
+    agree-outermost by_compatibility b d c k (derived.Pointer false) (derived.Function' n s) xs ys
 alike-derivations b d c k (derived.Array m ∷ xs) (derived.Pointer j ∷ ys) =
-    let p = qualified_by false c xs in agree-outermost may_be_equal b d p.0 k (derived.Array m) (derived.Pointer false) p.1 ys
+    agree-outermost by_compatibility b d c k (derived.Array m) (derived.Pointer false) xs ys
 alike-derivations b d c k (derived.Array m ∷ xs) (derived.Array n ∷ ys) =
-    let p = qualified_by false c xs in let q = qualified_by false k ys in
-    agree-outermost may_be_equal b d p.0 q.0 (derived.Array m) (derived.Array n) p.1 q.1
-    ∙ ap (λ (z : Bool). may_be_equal m n && z) (bare-reversed b d c k xs ys)
+    agree-outermost by_compatibility b d c k (derived.Array m) (derived.Array n) xs ys
 alike-derivations b d c k (derived.Array m ∷ xs) (derived.Function' n s ∷ ys) =
-    let p = qualified_by false c xs in agree-outermost may_be_equal b d p.0 k (derived.Array m) (derived.Function' n s) p.1 ys
+    agree-outermost by_compatibility b d c k (derived.Array m) (derived.Function' n s) xs ys
 alike-derivations b d c k (derived.Function' m r ∷ xs) (derived.Pointer j ∷ ys) =
-    agree-outermost may_be_equal b d c k (derived.Function' m r) (derived.Pointer false) xs ys
+    agree-outermost by_compatibility b d c k (derived.Function' m r) (derived.Pointer false) xs ys
 alike-derivations b d c k (derived.Function' m r ∷ xs) (derived.Array n ∷ ys) =
-    let q = qualified_by false k ys in agree-outermost may_be_equal b d c q.0 (derived.Function' m r) (derived.Array n) xs q.1
+    agree-outermost by_compatibility b d c k (derived.Function' m r) (derived.Array n) xs ys
 alike-derivations b d c k (derived.Function' m r ∷ xs) (derived.Function' n s ∷ ys) =
-    agree-outermost may_be_equal b d c k (derived.Function' m r) (derived.Function' n s) xs ys
-    ∙ ap (λ (z : Bool). z && compatible (made b c (reverse xs)) (made d k (reverse ys))) (types-row may_be_equal _ _ r s)
+    agree-outermost by_compatibility b d c k (derived.Function' m r) (derived.Function' n s) xs ys
+    ∙ ap (λ (z : Bool). z && compatible (made b c (reverse xs)) (made d k (reverse ys))) (types-row by_compatibility _ _ r s)
 
 pub alike-shapes : (t u : CType) → alike t u ≡ alike_by (shape t) (shape u)
 alike-shapes t u =

@@ -41,7 +41,7 @@ fn pointer_takes(target: LentType, from: &CType) -> bool
     match target_of(from) {
         Some(source) => {
             (target.is_alike(source) || target.is_void() || source.is_void())
-                && (target.is_constant() || !source.is_constant())
+                && (target.is_qualified() || !source.is_qualified())
         }
         None => false,
     }

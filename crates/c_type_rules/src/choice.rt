@@ -63,7 +63,7 @@ fn chosen_pointers(alloc: Global, left: &CType, right: &CType) -> Result<Option<
 fn chosen_target(alloc: Global, one: LentType, other: LentType) -> Result<CType, Memory>
     ensures { IfOk result (λ r. r ≡ spec.chosen_target (lent one.entry) (lent other.entry)) }
 {
-    let constant = one.is_constant() || other.is_constant();
+    let constant = one.is_qualified() || other.is_qualified();
     if one.is_void() || other.is_void() {
         Ok(constant_if(constant, plain(alloc, Base::Void)))
     } else {

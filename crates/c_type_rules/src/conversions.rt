@@ -47,7 +47,7 @@ pub fn sign_of(base: Base) -> Sign
 }
 
 /// An enumerated type counts as `int` (C11 6.7.2.2p4).
-pub(crate) fn as_int(base: Base) -> Base
+fn as_int(base: Base) -> Base
     ensures { result ≡ spec.as_int base }
 {
     match base {

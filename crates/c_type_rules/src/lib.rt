@@ -14,6 +14,7 @@ mod conversions;
 mod copies;
 mod kinds;
 mod making;
+mod modifiable;
 mod operands;
 mod operators;
 mod pointers;
@@ -35,6 +36,7 @@ pub use kinds::{
     is_void,
 };
 pub use making::{derived_from, element, in_word, plain, pointer_to, target};
+pub use modifiable::is_read_only;
 pub use operands::{
     as_form, in_register, is_lvalue, null, number, numbered, operand, then_step, then_unary,
     tree_of, value,

@@ -86,6 +86,17 @@ fn qualified_at(derived: &[Derived]) -> Place
 }
 
 impl LentType<'_> {
+    /// Whether the type itself is `const`: an array has no qualifier of its own (C11 6.7.3p9).
+    pub fn is_qualified(self) -> bool
+        ensures { result ≡ spec.is_qualified (lent self.entry) }
+    {
+        match self.shape() {
+            TypeShape::Basic(_) => self.constant,
+            TypeShape::PointerTo(constant, _) => constant,
+            _ => false,
+        }
+    }
+
     /// Whether the type is `const`: the qualifier of an array is that of its element (C11 6.7.3p9).
     pub fn is_constant(self) -> bool
         ensures { result ≡ spec.is_constant (lent self.entry) }

@@ -28,7 +28,7 @@ use Rattle.c_type_walk.specs.Walks.{Gave, Walks, fixed}
 use Rattle.c_type_walk.specs.declared.around.Around.{Around}
 use Rattle.c_type_walk.specs.declared.found.Found.{Found}
 use Rattle.c_type_walk.proofs.Walked.{then, gives, asks_nothing, answered, in_own_scope, in_scope, closed_at}
-use Rattle.c_type_statements.specs.Statements.{expression_row, while_of, do_of, for_of, headed, empty_block, with_one, both_branches, if_of, switch_of, branch_row, switched, switch_body, opened_state, opened_around, stating, stated_row}
+use Rattle.c_type_statements.specs.Statements.{expression_row, while_of, do_of, for_of, headed, empty_block, with_one, both_branches, if_of, switch_of, branch_row, switched, switch_body, then_loop, opened_state, opened_around, stating, stated_row}
 use Rattle.c_type_statements.proofs.Owned.{with_own_objects}
 
 -- ---- loops
@@ -150,9 +150,6 @@ blocked count w c old new objects made o g e =
     record { is = e ∙ all.is; faults = all.faults; state = all.state }
 
 -- what the head of a `for` declares, and then the loop
-abbrev pub then_loop : Walk Made → Walk TStmt → Walk Made
-then_loop w v = w >>= λ made. v >>= λ a. both_asked made a (λ made a. give (made ++ a ∷ []))
-
 loop_made : (made : Option Made) (a : Option TStmt) (c : scopes.Around) (now : Found) →
     Gave (both_asked made a (λ made a. give (made ++ a ∷ [])) c now.state) now now (with_one made a)
 loop_made (Some made) (Some a) c now = gives (made ++ a ∷ []) c now
@@ -160,13 +157,13 @@ loop_made (Some made) None c now = asks_nothing c now
 loop_made None (Some a) c now = asks_nothing c now
 loop_made None None c now = asks_nothing c now
 
-pub loop_behind : (w : Walk Made) (v : Walk TStmt) (c : scopes.Around) (old now new : Found) (made : Option Made) (a : Option TStmt) (all : Option Made) →
-    Gave (w c old.state) old now made → Gave (v c now.state) now new a → all ≡ with_one made a → Gave (then_loop w v c old.state) old new all
-loop_behind w v c old now new made a all g h e =
+pub loop_walks : (w : Walk Made) (v : Walk TStmt) (c : Around) (old now new : Found) (made : Option Made) (a : Option TStmt) (r : Result (Option Made) Memory) →
+    Gave (w (fixed c) old.state) old now made → Gave (v (fixed c) now.state) now new a → IfOk r (λ x. x ≡ with_one made a) → Walks (then_loop w v) c old r new
+loop_walks w v c old now new made a r g h i =
     let last : Option Made → Option TStmt → Walk Made = λ made a. both_asked made a (λ made a. give (made ++ a ∷ [])) in
     let rest : Option Made → Walk Made = λ made. v >>= last made in
-    let whole = then w rest c old now new made (with_one made a) g (then v (last made) c now new new a (with_one made a) h (loop_made made a c new)) in
-    record { is = e ∙ whole.is; faults = whole.faults; state = whole.state }
+    answered (then_loop w v) c old new r (with_one made a) i
+    (then w rest (fixed c) old now new made (with_one made a) g (then v (last made) (fixed c) now new new a (with_one made a) h (loop_made made a (fixed c) new)))
 
 -- ---- `if`
 

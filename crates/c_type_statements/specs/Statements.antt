@@ -10,7 +10,7 @@ use Rattle.c_tree.specs.declared.typed.statement.Branch.{Branch}
 use Rattle.c_tree.specs.declared.typed.statement.Part.{Part}
 use Rattle.c_tree.specs.declared.typed.statement.Objects.{Objects}
 use Rattle.c_typing.specs.declared.scope.State.{State}
-use Rattle.c_typing.specs.Scopes.{Walk, give, ◌>>=◌, asked, offer, here, scoped}
+use Rattle.c_typing.specs.Scopes.{Walk, give, ◌>>=◌, asked, both_asked, offer, here, scoped}
 use Rattle.c_typing.specs.Scopes as scopes
 use Rattle.c_typing.specs.Declarators.{Expressed}
 use Rattle.c_typing.specs.Declarations.{Made, FunctionNames}
@@ -93,6 +93,10 @@ for_headed s (Some e) a = empty_block s (t.Evaluate e ∷ a ∷ [])
 abbrev pub headed : State → Option (Option TExpr) → Option TStmt → Option TStmt
 headed s (Some e) (Some a) = Some (for_headed s e a)
 headed s _ _ = None
+
+-- what the head of a `for` declares, and then the loop
+abbrev pub then_loop : Walk Made → Walk TStmt → Walk Made
+then_loop w v = w >>= λ made. v >>= λ a. both_asked made a (λ made a. give (made ++ a ∷ []))
 
 -- ---- loops and `switch`, where their parts are there
 

@@ -9,6 +9,7 @@ ghost use Rattle.c_type_walk.specs.Walks.{fixed};
 ghost use Rattle.c_type_statements.specs.Statements.{counted_item, empty_block, opened_around, opened_state};
 ghost use Rattle.c_type_declarations.specs.Counting.{named};
 
+use crate::whole::one_behind;
 use c_tree::typed::{Object, Objects, TStmt};
 use c_tree::{BlockItem, Declaration};
 use c_type_declarations::{FunctionNames, automatic_count, is_addressed, object_of};
@@ -28,9 +29,22 @@ pub fn count_items(alloc: Global, state: &State, items: &[BlockItem]) -> Result<
     ensures { IfOk result (λ n. n ≡ spec.count_items (spec.function_names state.now) (map block_item_typing items.now)) }
 {
     let mut names = FunctionNames::new(alloc, &state.names);
+    let count = count_behind(alloc, &mut names, items);
+    drop(names);
+    count
+}
+
+/// How many automatic objects these items of a block declare, where these names are visible before them.
+fn count_behind(
+    alloc: Global,
+    names: &mut FunctionNames<'_>,
+    items: &[BlockItem],
+) -> Result<usize, Memory>
+    ensures { IfOk result (λ n. n ≡ spec.count_items (named names.old) (map block_item_typing items.now)) }
+{
     let mut count: usize = 0;
     for item in items {
-        let more = count_item(alloc, &mut names, item)?;
+        let more = count_item(alloc, names, item)?;
         let Some(sum) = count.checked_add(more) else {
             return Err(Memory);
         };
@@ -52,7 +66,9 @@ pub(crate) fn count_declared(
     ensures { IfOk result (λ n. n ≡ (declarations.automatic_count (spec.function_names found.now.state) (declarations.declared_of tree.now)).0) }
 {
     let mut names = FunctionNames::new(alloc, &found.state.names);
-    automatic_count(alloc, &mut names, tree)
+    let count = automatic_count(alloc, &mut names, tree);
+    drop(names);
+    count
 }
 
 /// How many an item of a block declares; `names` are then those behind it.
@@ -126,8 +142,11 @@ pub fn end_objects(alloc: Global, found: &mut Found, outside: Outside) -> Result
     ensures faults { found.new.faults ≡ found.old.faults }
     ensures state { OnOk result (found.new.state ≡ record found.old.state { own = outside.own }) }
 {
-    let list = objects_of(alloc, &found.state)?;
-    found.state.own = outside.own;
+    let Ok(list) = objects_of(alloc, &found.state) else {
+        drop(outside);
+        return Err(Memory);
+    };
+    drop(mem::replace(&mut found.state.own, outside.own));
     Ok(Objects {
         first: outside.declared,
         list,
@@ -141,8 +160,11 @@ fn objects_of(alloc: Global, state: &State) -> Result<Items<Object>, Memory>
     let mut objects = Items::new(alloc);
     for local in state.own.as_slice() {
         let addressed = is_addressed(state, local.number);
-        let ctype = copied(alloc, &local.ctype)?;
-        objects.push(object_of(&state.structs, addressed, ctype))?;
+        let Ok(ctype) = copied(alloc, &local.ctype) else {
+            drop(objects);
+            return Err(Memory);
+        };
+        objects = one_behind(objects, object_of(&state.structs, addressed, ctype))?;
     }
     Ok(objects)
 }

@@ -6,7 +6,7 @@ ghost use Rattle.std.specs.Option.{option_map};
 ghost use Rattle.c_tree.specs.declared.typed.statement.TStmt.TheVariants as t;
 ghost use Rattle.c_type_statements.specs.Statements as spec;
 
-use crate::whole::boxed_behind;
+use crate::whole::{boxed_behind, one_behind};
 use c_tree::typed::{Branch, TExpr, TStmt};
 use c_type_declarations::one;
 use c_type_walk::{Around, Found};
@@ -71,11 +71,15 @@ pub(crate) fn with_one<T: Drop>(
 ) -> Result<Option<Items<T>>, Memory>
     ensures { IfOk result (λ r. r ≡ spec.with_one all one) }
 {
-    let (Some(mut all), Some(one)) = (all, one) else {
+    let Some(all) = all else {
+        drop(one);
         return Ok(None);
     };
-    all.push(one)?;
-    Ok(Some(all))
+    let Some(one) = one else {
+        drop(all);
+        return Ok(None);
+    };
+    Ok(Some(one_behind(all, one)?))
 }
 
 /// The first branch of an `if`, alone.
@@ -121,7 +125,13 @@ fn if_made(
 ) -> Result<TStmt, Memory>
     ensures { IfOk result (λ r. r ≡ t.If (first ++ others) last) }
 {
-    let (mut branches, last) = boxed_behind(alloc, first, last)?;
-    branches.append(others)?;
+    let Ok((mut branches, last)) = boxed_behind(alloc, first, last) else {
+        drop(others);
+        return Err(Memory);
+    };
+    if branches.append(others).is_err() {
+        drop((branches, last));
+        return Err(Memory);
+    }
     Ok(TStmt::If(branches, last))
 }

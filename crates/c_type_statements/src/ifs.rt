@@ -39,7 +39,10 @@ impl<F: Fn(Global, &mut Found, &Around<'_>, u64, &Stmt) -> Result<Option<TStmt>,
         let within = around.in_scope(found);
         let first = self.branch_row(found, &within, at, condition, body)?;
         let first = first_branch(self.alloc, first)?;
-        let others = self.others_row(found, &within, others)?;
+        let Ok(others) = self.others_row(found, &within, others) else {
+            drop(first);
+            return Err(Memory);
+        };
         found.close(within.names_from, within.tags_from);
         if_of(self.alloc, first, others)
     }
@@ -60,14 +63,20 @@ impl<F: Fn(Global, &mut Found, &Around<'_>, u64, &Stmt) -> Result<Option<TStmt>,
         let mut branches = Some(Items::new(self.alloc));
         for one in others {
             let Some(head) = &one.head else {
-                let last = self.scoped_row(found, &within, &one.body)?;
+                let Ok(last) = self.scoped_row(found, &within, &one.body) else {
+                    drop(branches);
+                    return Err(Memory);
+                };
                 opened.close(found);
                 return Ok(branches.zip(last));
             };
             within = within.in_scope(found);
             opened.open(&within);
             let condition = &head.condition.value;
-            let branch = self.branch_row(found, &within, head.word, condition, &one.body)?;
+            let Ok(branch) = self.branch_row(found, &within, head.word, condition, &one.body) else {
+                drop(branches);
+                return Err(Memory);
+            };
             branches = with_one(branches, branch)?;
         }
         let last = empty(self.alloc, found, Items::new(self.alloc));
@@ -88,7 +97,10 @@ impl<F: Fn(Global, &mut Found, &Around<'_>, u64, &Stmt) -> Result<Option<TStmt>,
         ensures { Walks (parts.branch_row (spec.condition_row at (expr_typing condition.now)) (stmt_typing body.now)) around.now found.old result found.new }
     {
         let condition = condition_row(self.alloc, found, around, at, condition)?;
-        let body = self.scoped_row(found, around, body)?;
+        let Ok(body) = self.scoped_row(found, around, body) else {
+            drop(condition);
+            return Err(Memory);
+        };
         Ok(both_branches(condition, body))
     }
 }

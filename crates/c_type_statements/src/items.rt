@@ -34,8 +34,14 @@ impl<F: Fn(Global, &mut Found, &Around<'_>, u64, &Stmt) -> Result<Option<TStmt>,
         let count = count_items(self.alloc, &found.state, items)?;
         let scope = around.in_scope(found);
         let (outside, within) = begin_objects(self.alloc, found, &scope, count)?;
-        let made = self.items_row(found, &within, items)?;
-        let objects = end_objects(self.alloc, found, outside)?;
+        let Ok(made) = self.items_row(found, &within, items) else {
+            drop(outside);
+            return Err(Memory);
+        };
+        let Ok(objects) = end_objects(self.alloc, found, outside) else {
+            drop(made);
+            return Err(Memory);
+        };
         found.close(scope.names_from, scope.tags_from);
         Ok(block_of(objects, made))
     }
@@ -56,7 +62,10 @@ impl<F: Fn(Global, &mut Found, &Around<'_>, u64, &Stmt) -> Result<Option<TStmt>,
     {
         let mut made = Some(Items::new(self.alloc));
         for item in items {
-            let next = self.item_row(found, around, item)?;
+            let Ok(next) = self.item_row(found, around, item) else {
+                drop(made);
+                return Err(Memory);
+            };
             made = both(made, next)?;
         }
         Ok(made)

@@ -7,6 +7,7 @@ ghost use Rattle.c_typing.specs.OfStatements as spec;
 ghost use Rattle.c_typing.specs.Scopes as scopes;
 ghost use Rattle.c_typing.specs.Statements.{stmt_typing};
 ghost use Rattle.c_typing.specs.Trees.{expr_typing};
+ghost use Rattle.c_type_statements.specs.Statements as parts;
 ghost use Rattle.c_type_walk.specs.Nests.{Nests};
 ghost use Rattle.c_type_walk.specs.Walks.{Walks};
 ghost use Rattle.c_type_statements.specs.Nested.{WalksStmt};
@@ -21,7 +22,7 @@ use c_tree::{Declaration, Expr, ForControl, ForHead, Pos, Stmt};
 use c_type_declarations::declaration_row;
 use c_type_walk::{Around, Found};
 use std::alloc::Global;
-use word_ops::Memory;
+use word_ops::{Items, Memory};
 
 impl<F: Fn(Global, &mut Found, &Around<'_>, u64, &Stmt) -> Result<Option<TStmt>, Memory>> Walker<
     F,
@@ -58,7 +59,10 @@ impl<F: Fn(Global, &mut Found, &Around<'_>, u64, &Stmt) -> Result<Option<TStmt>,
     {
         let within = around.in_scope(found);
         let condition = condition_row(self.alloc, found, &within, at, condition)?;
-        let body = self.loop_body(found, &within, body)?;
+        let Ok(body) = self.loop_body(found, &within, body) else {
+            drop(condition);
+            return Err(Memory);
+        };
         found.close(within.names_from, within.tags_from);
         while_of(self.alloc, condition, body)
     }
@@ -120,7 +124,10 @@ impl<F: Fn(Global, &mut Found, &Around<'_>, u64, &Stmt) -> Result<Option<TStmt>,
     {
         let within = around.in_scope(found);
         let first = dropped_if_any(self.alloc, found, &within, first)?;
-        let made = self.loop_row(found, &within, at, control, body)?;
+        let Ok(made) = self.loop_row(found, &within, at, control, body) else {
+            drop(first);
+            return Err(Memory);
+        };
         let made = headed(self.alloc, found, first, made)?;
         found.close(within.names_from, within.tags_from);
         Ok(made)
@@ -142,12 +149,37 @@ impl<F: Fn(Global, &mut Found, &Around<'_>, u64, &Stmt) -> Result<Option<TStmt>,
         let count = count_declared(self.alloc, found, head)?;
         let scope = around.in_scope(found);
         let (outside, within) = begin_objects(self.alloc, found, &scope, count)?;
-        let made = declaration_row(self.alloc, found, &within, head)?;
-        let repeated = self.loop_row(found, &within, at, control, body)?;
-        let made = with_one(made, repeated)?;
-        let objects = end_objects(self.alloc, found, outside)?;
+        let Ok(made) = self.declared_loop(found, &within, at, head, control, body) else {
+            drop(outside);
+            return Err(Memory);
+        };
+        let Ok(objects) = end_objects(self.alloc, found, outside) else {
+            drop(made);
+            return Err(Memory);
+        };
         found.close(scope.names_from, scope.tags_from);
         Ok(block_of(objects, made))
+    }
+
+    /// What the head of a `for` declares, and then the loop.
+    fn declared_loop(
+        &self,
+        found: &mut Found,
+        around: &Around<'_>,
+        at: Pos,
+        head: &Declaration,
+        control: &ForControl,
+        body: &Stmt,
+    ) -> Result<Option<Items<TStmt>>, Memory>
+        requires { Nests WalksStmt self.now.more (F.pre self.now.inside) (F.post self.now.inside) }
+        ensures { Walks (parts.then_loop (declarations.declaration_row (declarations.declared_of head.now)) (spec.loop_row at (spec.controlling_of control.now) (stmt_typing body.now))) around.now found.old result found.new }
+    {
+        let made = declaration_row(self.alloc, found, around, head)?;
+        let Ok(repeated) = self.loop_row(found, around, at, control, body) else {
+            drop(made);
+            return Err(Memory);
+        };
+        with_one(made, repeated)
     }
 
     /// What is repeated of a `for`.
@@ -169,8 +201,14 @@ impl<F: Fn(Global, &mut Found, &Around<'_>, u64, &Stmt) -> Result<Option<TStmt>,
             at,
             control.condition.as_ref(),
         )?;
-        let step = dropped_if_any(self.alloc, found, around, control.step.as_ref())?;
-        let body = self.loop_body(found, around, body)?;
+        let Ok(step) = dropped_if_any(self.alloc, found, around, control.step.as_ref()) else {
+            drop(condition);
+            return Err(Memory);
+        };
+        let Ok(body) = self.loop_body(found, around, body) else {
+            drop((condition, step));
+            return Err(Memory);
+        };
         for_of(self.alloc, condition, step, body)
     }
 }

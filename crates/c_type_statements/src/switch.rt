@@ -97,8 +97,19 @@ impl Parting {
     pub(crate) fn finish(mut self, alloc: Global) -> Result<Items<Part>, Memory>
         ensures { IfOk result (λ r. r ≡ (parting_of self).done ++ spec.part_if (parting_of self).labels (parting_of self).body) }
     {
-        self.end_part(alloc)?;
-        Ok(self.done)
+        if self.end_part(alloc).is_err() {
+            drop(self);
+            return Err(Memory);
+        }
+        let Parting {
+            done,
+            labels,
+            body,
+            values,
+            ..
+        } = self;
+        drop((labels, body, values));
+        Ok(done)
     }
 }
 

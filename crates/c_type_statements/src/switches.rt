@@ -39,7 +39,10 @@ impl<F: Fn(Global, &mut Found, &Around<'_>, u64, &Stmt) -> Result<Option<TStmt>,
     {
         let within = around.in_scope(found);
         let operand = switched(self.alloc, found, &within, at, condition)?;
-        let body = self.switch_body(found, &within, items)?;
+        let Ok(body) = self.switch_body(found, &within, items) else {
+            drop(operand);
+            return Err(Memory);
+        };
         found.close(within.names_from, within.tags_from);
         Ok(switch_of(operand, body))
     }
@@ -61,8 +64,14 @@ impl<F: Fn(Global, &mut Found, &Around<'_>, u64, &Stmt) -> Result<Option<TStmt>,
             may_break: true,
             ..within
         };
-        let parts = self.parts_row(found, &within, items)?;
-        let objects = end_objects(self.alloc, found, outside)?;
+        let Ok(parts) = self.parts_row(found, &within, items) else {
+            drop(outside);
+            return Err(Memory);
+        };
+        let Ok(objects) = end_objects(self.alloc, found, outside) else {
+            drop(parts);
+            return Err(Memory);
+        };
         found.close(scope.names_from, scope.tags_from);
         Ok(Some(objects).zip(parts))
     }
@@ -80,10 +89,14 @@ impl<F: Fn(Global, &mut Found, &Around<'_>, u64, &Stmt) -> Result<Option<TStmt>,
         let mut parting = Parting::new(self.alloc);
         let mut good = true;
         for item in items {
-            let fine = self.part_row(found, around, &mut parting, item)?;
+            let Ok(fine) = self.part_row(found, around, &mut parting, item) else {
+                drop(parting);
+                return Err(Memory);
+            };
             good = good && fine;
         }
         if !good {
+            drop(parting);
             return Ok(None);
         }
         Ok(Some(parting.finish(self.alloc)?))

@@ -5,7 +5,7 @@ ghost use Rattle.std.specs.Prelude.{None, Some};
 ghost use Rattle.std.specs.Option.{option_copied, option_map};
 ghost use Rattle.c_typing.specs.OfStatements as spec;
 ghost use Rattle.c_typing.specs.Trees.{expr_typing};
-ghost use Rattle.c_type_walk.specs.Walks.{Walks};
+ghost use Rattle.c_type_walk.specs.Walks.{Walks, fixed};
 ghost use Rattle.c_type_statements.specs.Statements as parts;
 
 use crate::blocks::empty;
@@ -155,6 +155,7 @@ pub(crate) fn operand_row(
 {
     let value = valued(alloc, operand)?;
     if !is_integer(&value.ctype) {
+        drop(value);
         return found.tell(around, FaultKind::Mismatch, at);
     }
     let promoted = promoted_type(alloc, &value.ctype);
@@ -255,14 +256,30 @@ fn return_value(
 ) -> Result<Option<TStmt>, Memory>
     ensures { Walks (spec.return_row at (Some (expr_typing tree.now))) around.now found.old result found.new }
 {
-    let Some(operand) = expr(alloc, found, around, tree)? else {
+    found.tell_if(is_void(around.result), FaultKind::Mismatch, at)?;
+    let operand = expr(alloc, found, around, tree)?;
+    match returned(alloc, found, around, at, operand)? {
+        Some(value) => Ok(Some(TStmt::Return(Some(value)))),
+        None => Ok(None),
+    }
+}
+
+/// The value that a function gives, which is asked of no function of type `void`.
+fn returned(
+    alloc: Global,
+    found: &mut Found,
+    around: &Around<'_>,
+    at: Pos,
+    operand: Option<Operand>,
+) -> Result<Option<TExpr>, Memory>
+    ensures { Walks (spec.returned at (fixed around.now).result operand) around.now found.old result found.new }
+{
+    let Some(operand) = operand else {
         return Ok(None);
     };
     if is_void(around.result) {
-        return found.tell(around, FaultKind::Mismatch, at);
-    }
-    let Some(value) = given_row(alloc, found, around, at, around.result, operand)? else {
+        drop(operand);
         return Ok(None);
-    };
-    Ok(Some(TStmt::Return(Some(value))))
+    }
+    given_row(alloc, found, around, at, around.result, operand)
 }

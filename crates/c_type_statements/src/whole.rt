@@ -1,13 +1,14 @@
 //! Statements of their parts, where all of these are there (C11 6.8).
 //! No walk: each makes one statement of what the walks of its parts gave.
 
-ghost use Rattle.std.specs.Prelude.{◌≡◌, ◌∷◌, [], IfOk};
-ghost use Rattle.std.specs.Option.{option_map};
+ghost use Rattle.std.specs.Prelude.{◌≡◌, ◌∷◌, ◌++◌, [], IfOk};
+ghost use Rattle.std.specs.Option.{option_map, option_zip};
 ghost use Rattle.c_tree.specs.declared.typed.statement.TStmt.TheVariants as t;
 ghost use Rattle.c_type_statements.specs.Statements as parts;
 
 use crate::blocks::empty;
 use c_tree::typed::{Objects, Part, TExpr, TStmt};
+use c_type_declarations::one;
 use c_type_walk::Found;
 use std::alloc::Global;
 use word_ops::{Boxed, Items, Memory};
@@ -24,11 +25,8 @@ pub(crate) fn while_of(
 ) -> Result<Option<TStmt>, Memory>
     ensures { IfOk result (λ r. r ≡ parts.while_of condition body) }
 {
-    match condition.zip(body) {
-        Some((condition, body)) => {
-            let (condition, body) = boxed_behind(alloc, condition, body)?;
-            Ok(Some(TStmt::While(condition, body)))
-        }
+    match zipped(alloc, condition, body)? {
+        Some((condition, body)) => Ok(Some(TStmt::While(condition, body))),
         None => Ok(None),
     }
 }
@@ -45,11 +43,8 @@ pub(crate) fn do_of(
 ) -> Result<Option<TStmt>, Memory>
     ensures { IfOk result (λ r. r ≡ parts.do_of body condition) }
 {
-    match condition.zip(body) {
-        Some((condition, body)) => {
-            let (condition, body) = boxed_behind(alloc, condition, body)?;
-            Ok(Some(TStmt::Do(body, condition)))
-        }
+    match zipped(alloc, condition, body)? {
+        Some((condition, body)) => Ok(Some(TStmt::Do(body, condition))),
         None => Ok(None),
     }
 }
@@ -67,11 +62,8 @@ pub(crate) fn for_of(
 ) -> Result<Option<TStmt>, Memory>
     ensures { IfOk result (λ r. r ≡ parts.for_of condition step body) }
 {
-    match condition.zip(step).zip(body) {
-        Some((head, body)) => {
-            let ((condition, step), body) = boxed_behind(alloc, head, body)?;
-            Ok(Some(TStmt::For(condition, step, body)))
-        }
+    match zipped(alloc, condition.zip(step), body)? {
+        Some(((condition, step), body)) => Ok(Some(TStmt::For(condition, step, body))),
         None => Ok(None),
     }
 }
@@ -99,6 +91,29 @@ pub(crate) fn block_of(objects: Objects, made: Option<Items<TStmt>>) -> Option<T
     }
 }
 
+/// Something, and what stands behind it in a box, where both are there.
+///
+/// # Errors
+///
+/// `Memory` where memory is wanting.
+fn zipped<A: Drop, B: Drop>(
+    alloc: Global,
+    first: Option<A>,
+    then: Option<B>,
+) -> Result<Option<(A, Boxed<B>)>, Memory>
+    ensures { IfOk result (λ r. r ≡ option_zip first then) }
+{
+    let Some(first) = first else {
+        drop(then);
+        return Ok(None);
+    };
+    let Some(then) = then else {
+        drop(first);
+        return Ok(None);
+    };
+    Ok(Some(boxed_behind(alloc, first, then)?))
+}
+
 /// Something, and what stands behind it in a box.
 ///
 /// # Errors
@@ -111,7 +126,10 @@ pub(crate) fn boxed_behind<A: Drop, B: Drop>(
 ) -> Result<(A, Boxed<B>), Memory>
     ensures { IfOk result (λ r. (r.0 ≡ first) × (r.1 ≡ then)) }
 {
-    let then = Boxed::new(alloc, then)?;
+    let Ok(then) = Boxed::new(alloc, then) else {
+        drop(first);
+        return Err(Memory);
+    };
     Ok((first, then))
 }
 
@@ -153,12 +171,29 @@ fn for_head(
     }
 }
 
+/// One more item behind others.
+///
+/// # Errors
+///
+/// `Memory` where memory is wanting.
+pub(crate) fn one_behind<T: Drop>(list: Items<T>, item: T) -> Result<Items<T>, Memory>
+    ensures { IfOk result (λ longer. longer ≡ list ++ item ∷ []) }
+{
+    let mut list = list;
+    if list.push(item).is_err() {
+        drop(list);
+        return Err(Memory);
+    }
+    Ok(list)
+}
+
 /// One item and then another.
 fn both_in_turn<T: Drop>(alloc: Global, first: T, then: T) -> Result<Items<T>, Memory>
     ensures { IfOk result (λ items. items ≡ first ∷ then ∷ []) }
 {
-    let mut items = Items::new(alloc);
-    items.push(first)?;
-    items.push(then)?;
-    Ok(items)
+    let Ok(items) = one(alloc, first) else {
+        drop(then);
+        return Err(Memory);
+    };
+    one_behind(items, then)
 }

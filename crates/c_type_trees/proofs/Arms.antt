@@ -16,7 +16,7 @@ use Rattle.c_typing.specs.declared.declarator.Part.{Part}
 use Rattle.c_typing.specs.Types.{shape}
 use Rattle.c_typing.specs.Scopes.{Walk, offer, ◌>>=◌, asked, both_asked}
 use Rattle.c_typing.specs.Expressions as rows
-use Rattle.c_typing.specs.Declarators.{Expressed, Declaring, Members, declared_type, derive, name_place, struct_row, struct_begun, members_row, tag_place, one_member, member_named, complete_row, adjusted, valued_enumerator, nowhere}
+use Rattle.c_typing.specs.Declarators.{Expressed, Declaring, Members, declared_type, derive, name_place, struct_row, struct_begun, members_row, tag_place, one_member, member_named, complete_parameter, adjusted, valued_enumerator, nowhere}
 use Rattle.c_typing.specs.Parts.{Suffixing, Indexing, Calling, Membering, Arrowing, Changing}
 use Rattle.c_typing.specs.Trees.{next_typing, next_typing-is, suffix_typing}
 use Rattle.c_typing.specs.OfTrees.{truths_row, logical_row, arguments, suffixes_row, postfix_row, parameter_type, basis_type}
@@ -124,9 +124,9 @@ enumerated id e c old mid new o r g w =
 
 pub parameter_typed : (d : Declaring) (at : Pos) (b : Option Basis) (c : Around) (old mid new : Found) (t : Option CType) (r : Result (Option CType) Memory)
     → Gave (declared_type d false at (option_map basis_type b) (fixed c) old.state) old mid t
-    → Walks (asked t (λ t. complete_row (name_place d.name at) (adjusted (shape t) t))) c mid r new → Walks (parameter_type d at b) c old r new
+    → Walks (asked t (λ t. complete_parameter (name_place d.name at) (adjusted (shape t) t))) c mid r new → Walks (parameter_type d at b) c old r new
 parameter_typed d at b c old mid new t r g w =
-    then_walk (declared_type d false at (option_map basis_type b)) (λ t. asked t (λ t. complete_row (name_place d.name at) (adjusted (shape t) t))) c old mid new t r g w
+    then_walk (declared_type d false at (option_map basis_type b)) (λ t. asked t (λ t. complete_parameter (name_place d.name at) (adjusted (shape t) t))) c old mid new t r g w
 
 -- ---- `||` and `&&`
 

@@ -16,11 +16,10 @@ use Rattle.c_tree.specs.declared.typed.types.CType.{CType}
 use Rattle.c_typing.specs.declared.operand.Operand.{Operand}
 use Rattle.c_typing.specs.declared.declarator.Basis.{Basis}
 use Rattle.c_typing.specs.declared.declarator.Part.{Part}
-use Rattle.c_typing.specs.declared.declarator.Part.TheVariants.{Listing}
 use Rattle.c_typing.specs.declared.declarator.Parameter.{Parameter}
 use Rattle.c_typing.specs.Scopes.{Said, Walk, give, offer, ◌>>=◌, asked, both_asked}
 use Rattle.c_typing.specs.Expressions as rows
-use Rattle.c_typing.specs.Declarators.{TypeNamed, Enumerated, Members, enum_row, struct_row, struct_begun, members_row, tag_place, Declaring, Suffixed, Specified, Parts, Specifying, with_type, specifiers_row, first_token}
+use Rattle.c_typing.specs.Declarators.{function_part, TypeNamed, Enumerated, Members, enum_row, struct_row, struct_begun, members_row, tag_place, Declaring, Suffixed, Specified, Parts, Specifying, with_type, specifiers_row, first_token}
 use Rattle.c_typing.specs.Parts.{Prefixing, Casting, Operating}
 use Rattle.c_typing.specs.OfTrees.{level_row, binaries_row, suffixes_parts, pointing, is_register, parameter_basis, parameter_type, parameter_named}
 use Rattle.c_typing.specs.Trees.{expr_typing, specifier_typing}
@@ -37,7 +36,7 @@ use Rattle.c_type_trees.specs.Specifying.{named_row, with_named}
 use Rattle.c_type_trees.proofs.After.{Same, after, after_same, step, done, tail_as, answered, answered_as}
 use Rattle.c_type_trees.proofs.Loops.{gathered_first}
 use Rattle.c_type_trees.proofs.Steps.{arguments_turn}
-use Rattle.c_type_trees.proofs.Turns.{enumeration_left, enum_step, parts_last, listing_last, parameter_last}
+use Rattle.c_type_trees.proofs.Turns.{enumeration_left, enum_step, parts_last, parameter_last}
 use Rattle.c_type_trees.proofs.Arms.{then_walk, same_walk, structured}
 
 -- what is offered is given
@@ -107,11 +106,11 @@ structured_by at tag lent place ws c old mid mid2 new n ms r same is g h w =
 -- an enumeration whose enumerators begin here
 pub enum_opened : (tag : Option Identifier) (es : List Enumerated) (lent : Option Identifier) (given : Option ℕ) (number : ℕ) (c : Around) (old new : Found)
     → lent ≡ tag → given ≡ Some number → Gave (enum_begun lent (fixed c) old.state) old new given
-    → after (enum_row tag es) c old ≡ after (enumeration_left number (Some 0) es) c new
+    → after (enum_row tag es) c old ≡ after (enumeration_left tag number (Some 0) es) c new
 enum_opened tag es lent given number c old new same is g =
     let begun : Gave (enum_begun tag (fixed c) old.state) old new (Some number) =
     subst (λ (o : Option ℕ). Gave (enum_begun tag (fixed c) old.state) old new o) is (subst (λ (t : Option Identifier). Gave (enum_begun t (fixed c) old.state) old new given) same g) in
-    after_same _ _ c old (enum_step tag es) ∙ step (enum_begun tag) (λ n. asked n (λ n. enumeration_left n (Some 0) es)) c old new (Some number) begun
+    after_same _ _ c old (enum_step tag es) ∙ step (enum_begun tag) (λ n. asked n (λ n. enumeration_left tag n (Some 0) es)) c old new (Some number) begun
 
 pub enum_none : (tag : Option Identifier) (es : List Enumerated) (lent : Option Identifier) (given : Option ℕ) (c : Around) (old new : Found)
     → lent ≡ tag → given ≡ None → Gave (enum_begun lent (fixed c) old.state) old new given → Gave (enum_row tag es (fixed c) old.state) old new None
@@ -119,16 +118,16 @@ enum_none tag es lent given c old new same is g =
     let begun : Gave (enum_begun tag (fixed c) old.state) old new None =
     subst (λ (o : Option ℕ). Gave (enum_begun tag (fixed c) old.state) old new o) is (subst (λ (t : Option Identifier). Gave (enum_begun t (fixed c) old.state) old new given) same g) in
     done (enum_row tag es) c old new None
-    (after_same _ _ c old (enum_step tag es) ∙ step (enum_begun tag) (λ n. asked n (λ n. enumeration_left n (Some 0) es)) c old new None begun)
+    (after_same _ _ c old (enum_step tag es) ∙ step (enum_begun tag) (λ n. asked n (λ n. enumeration_left tag n (Some 0) es)) c old new None begun)
 
 -- ---- declarators
 
 pub listing_walked : (w : Walk (List Parameter)) (all : Option (List Parameter)) (v : Option Part) (c : Around) (old new : Found)
-    → Gave (w (fixed c) old.state) old new all → v ≡ option_map Listing all
-    → Gave ((w >>= λ ps. asked ps (λ ps. give (Listing ps))) (fixed c) old.state) old new v
+    → Gave (w (fixed c) old.state) old new all → v ≡ Some (function_part all)
+    → Gave ((w >>= λ ps. give (function_part ps)) (fixed c) old.state) old new v
 listing_walked w all v c old new g e =
-    done (w >>= λ ps. asked ps (λ ps. give (Listing ps))) c old new v
-    (step w (λ ps. asked ps (λ ps. give (Listing ps))) c old new all g ∙ after_same _ _ c new (listing_last all) ∙ ap (λ o. after (offer o) c new) (sym e))
+    done (w >>= λ ps. give (function_part ps)) c old new v
+    (step w (λ ps. give (function_part ps)) c old new all g ∙ ap (λ o. after (offer o) c new) (sym e))
 
 pub derived : (inner : Declaring) (ss : List Suffixed) (ps : List Pointer) (defining b d : Bool) (i o : Option (List Part)) (r : Result (Option (List Part)) Memory) (c : Around) (old mid new : Found)
     → b ≡ (is_some inner.makes && defining) → d ≡ (not (is_some inner.makes) && defining)

@@ -1,5 +1,6 @@
 -- One turn of each loop of the walk over a list of trees, from what its calls gave.
 -- The answers of loops cite these lemmas, each that of its function.
+use Rattle.c_tree.specs.declared.expression.Identifier.{Identifier}
 use Rattle.std.specs.Prelude.{◌≡◌, ℕ, ◌+◌, ◌%◌, ◌^◌, ◌<◌, Bool, false, List, [], ◌∷◌, ◌++◌, Option, Some, map, length, drop}
 use Rattle.std.specs.Option.{option_map}
 use Rattle.std.proofs.Common.{sym, ◌∙◌, ap, get_or}
@@ -168,14 +169,14 @@ member_declarators_round b list i x done more v whole c old new h is before g jo
     (members_turn (one_member b (member_declarator_typing x)) (map (one_member b) (map member_declarator_typing (drop (i + 1) list))) done v c old new g)
     ∙ ap (λ all. after (in_row (map (one_member b) (map member_declarator_typing (drop (i + 1) list))) >>= members_kept all) c new) (sym joined)
 
-pub enumeration_round : (number : ℕ) (list : List Enumerator) (i : ℕ) (x : Enumerator) (n m v : Option ℕ) (whole : Said CType) (c : Around) (old new : Found)
-    → i < length list → x ≡ get_or list i x → whole ≡ after (enumeration_left number n (map enumerator_typing (drop i list))) c old
+pub enumeration_round : (tag : Option Identifier) (number : ℕ) (list : List Enumerator) (i : ℕ) (x : Enumerator) (n m v : Option ℕ) (whole : Said CType) (c : Around) (old new : Found)
+    → i < length list → x ≡ get_or list i x → whole ≡ after (enumeration_left tag number n (map enumerator_typing (drop i list))) c old
     → Gave ((enumerator_typing x).value n (fixed c) old.state) old new v → m ≡ option_map (λ n. (n + 1) % (2 ^ 32)) v
-    → whole ≡ after (enumeration_left number m (map enumerator_typing (drop (i + 1) list))) c new
-enumeration_round number list i x n m v whole c old new h is before g following =
-    turned enumerator_typing list i x (enumeration_left number n) (enumeration_left number (option_map (λ n. (n + 1) % (2 ^ 32)) v) (map enumerator_typing (drop (i + 1) list))) whole c old new h is before
-    (enumeration_turn number n v (enumerator_typing x) (map enumerator_typing (drop (i + 1) list)) c old new g)
-    ∙ ap (λ k. after (enumeration_left number k (map enumerator_typing (drop (i + 1) list))) c new) (sym following)
+    → whole ≡ after (enumeration_left tag number m (map enumerator_typing (drop (i + 1) list))) c new
+enumeration_round tag number list i x n m v whole c old new h is before g following =
+    turned enumerator_typing list i x (enumeration_left tag number n) (enumeration_left tag number (option_map (λ n. (n + 1) % (2 ^ 32)) v) (map enumerator_typing (drop (i + 1) list))) whole c old new h is before
+    (enumeration_turn tag number n v (enumerator_typing x) (map enumerator_typing (drop (i + 1) list)) c old new g)
+    ∙ ap (λ k. after (enumeration_left tag number k (map enumerator_typing (drop (i + 1) list))) c new) (sym following)
 
 -- ---- declarators
 

@@ -1,5 +1,6 @@
 -- Each function of the walk, call by call: how it begins, one turn of its loop, and how it ends.
 -- `Rounds`, `Arms` and `Nodes` cite these lemmas, which speak of single walks and of no list of trees.
+use Rattle.c_tree.specs.declared.expression.Identifier.{Identifier}
 use Rattle.std.specs.Prelude.{◌≡◌, ℕ, ◌+◌, ◌%◌, ◌^◌, Bool, false, List, [], ◌∷◌, ◌++◌, Option, Some, None}
 use Rattle.std.specs.Option.{option_map}
 use Rattle.std.proofs.Common.{◌∙◌}
@@ -13,7 +14,7 @@ use Rattle.c_typing.specs.Types.{plain}
 use Rattle.c_typing.specs.Scopes.{Walk, give, offer, ◌>>=◌, asked, both_asked, in_row}
 use Rattle.c_typing.specs.Expressions.{truth_row}
 use Rattle.c_typing.specs.Expressions as rows
-use Rattle.c_typing.specs.Declarators.{Expressed, Enumerated, Members, Specified, Suffixed, Parts, with_specifier, read_specifiers, basis_of, enumerators_row}
+use Rattle.c_typing.specs.Declarators.{enum_ended, Expressed, Enumerated, Members, Specified, Suffixed, Parts, with_specifier, read_specifiers, basis_of, enumerators_row}
 use Rattle.c_typing.specs.Parts.{Prefixing, Prefixed, Suffixing, Operating, Branching, Listed}
 use Rattle.c_typing.specs.OfTrees.{arguments, suffix_row, suffixes_row, binaries_row, truths_row, logical_row, chain_row, assigns_row, suffixes_parts, parameters_row}
 use Rattle.c_type_walk.specs.declared.around.Around.{Around}
@@ -132,12 +133,12 @@ pub members_turn : (w : Walk Members) (ws : List (Walk Members)) (done v : Optio
 members_turn w ws done v c old new g =
     after_same _ _ c old (members_step w ws done) ∙ step w (λ a. in_row ws >>= members_kept (both_joined done a)) c old new v g
 
-pub enumeration_turn : (number : ℕ) (next v : Option ℕ) (e : Enumerated) (es : List Enumerated) (c : Around) (old new : Found)
+pub enumeration_turn : (tag : Option Identifier) (number : ℕ) (next v : Option ℕ) (e : Enumerated) (es : List Enumerated) (c : Around) (old new : Found)
     → Gave (e.value next (fixed c) old.state) old new v
-    → after (enumeration_left number next (e ∷ es)) c old ≡ after (enumeration_left number (option_map (λ n. (n + 1) % (2 ^ 32)) v) es) c new
-enumeration_turn number next v e es c old new g =
-    after_same _ _ c old (bind_assoc (e.value next) (λ n. enumerators_row (option_map (λ n. (n + 1) % (2 ^ 32)) n) es) (λ u. give (plain (base.Enum number))))
-    ∙ step (e.value next) (λ n. enumeration_left number (option_map (λ n. (n + 1) % (2 ^ 32)) n) es) c old new v g
+    → after (enumeration_left tag number next (e ∷ es)) c old ≡ after (enumeration_left tag number (option_map (λ n. (n + 1) % (2 ^ 32)) v) es) c new
+enumeration_turn tag number next v e es c old new g =
+    after_same _ _ c old (bind_assoc (e.value next) (λ n. enumerators_row (option_map (λ n. (n + 1) % (2 ^ 32)) n) es) (λ u. enum_ended tag number))
+    ∙ step (e.value next) (λ n. enumeration_left tag number (option_map (λ n. (n + 1) % (2 ^ 32)) n) es) c old new v g
 
 -- ---- declarators
 

@@ -11,7 +11,6 @@ use Rattle.c_tree.specs.declared.typed.types.CType.{CType}
 use Rattle.c_tree.specs.declared.typed.expression.TExpr.{TExpr}
 use Rattle.c_typing.specs.declared.operand.Operand.{Operand}
 use Rattle.c_typing.specs.declared.declarator.Part.{Part}
-use Rattle.c_typing.specs.declared.declarator.Part.TheVariants.{Listing}
 use Rattle.c_typing.specs.declared.declarator.Parameter.{Parameter}
 use Rattle.c_typing.specs.declared.declarator.Basis.{Basis}
 use Rattle.c_typing.specs.Types.{int, plain}
@@ -19,7 +18,7 @@ use Rattle.c_typing.specs.Operands.{tree_of, value, dropping}
 use Rattle.c_typing.specs.Scopes.{Walk, give, offer, unasked, ◌>>=◌, asked, both_asked, in_row}
 use Rattle.c_typing.specs.Expressions as rows
 use Rattle.c_typing.specs.Expressions.{truth_row}
-use Rattle.c_typing.specs.Declarators.{Enumerated, Members, struct_row, struct_begun, members_row, tag_place, all_members, enum_row, enumerators_row}
+use Rattle.c_typing.specs.Declarators.{Enumerated, Members, struct_row, struct_begun, members_row, tag_place, all_members, enum_row, enum_ended, enumerators_row}
 use Rattle.c_typing.specs.Parts.{Prefixing, Operating, Branching}
 use Rattle.c_typing.specs.OfTrees.{prefix_row, prefixes_row, truths_row, logical_row, chain_row, assigns_row, commas_row, pointing, is_register, parameter_named}
 use Rattle.c_type_declarators.specs.Enumerations.{enum_begun}
@@ -221,11 +220,11 @@ struct_step at tag ws =
     (same_sym _ _ (bind_assoc (in_row ws) (λ ms. offer (option_map all_members ms)) (λ ms. both_asked n ms (members_row (tag_place tag at))))))
 
 -- the enumerators that are left, and the type behind them
-abbrev pub enumeration_left : ℕ → Option ℕ → List Enumerated → Walk CType
-enumeration_left number next es = enumerators_row next es >>= λ u. give (plain (base.Enum number))
+abbrev pub enumeration_left : Option Identifier → ℕ → Option ℕ → List Enumerated → Walk CType
+enumeration_left tag number next es = enumerators_row next es >>= λ u. enum_ended tag number
 
 pub enum_step : (tag : Option Identifier) (es : List Enumerated)
-    → Same (enum_row tag es) (enum_begun tag >>= λ n. asked n (λ n. enumeration_left n (Some 0) es))
+    → Same (enum_row tag es) (enum_begun tag >>= λ n. asked n (λ n. enumeration_left tag n (Some 0) es))
 enum_step None es = record { at = λ c s. refl }
 enum_step (Some tag) es = record { at = λ c s. simp append-nil }
 
@@ -237,10 +236,6 @@ parts_last ps None None = record { at = λ c s. refl }
 parts_last ps None (Some ss) = record { at = λ c s. refl }
 parts_last ps (Some inner) None = record { at = λ c s. refl }
 parts_last ps (Some inner) (Some ss) = record { at = λ c s. refl }
-
-pub listing_last : (ps : Option (List Parameter)) → Same (asked ps (λ ps. give (Listing ps))) (offer (option_map Listing ps))
-listing_last None = record { at = λ c s. refl }
-listing_last (Some ps) = record { at = λ c s. refl }
 
 pub parameter_last : (name : Option Identifier) (first : Pos) (n : ℕ) (b : Option Basis) (t : Option CType)
     → Same (both_asked b t (λ b t. parameter_named name n (is_register b.storage) t >>= λ t. asked t (λ t.

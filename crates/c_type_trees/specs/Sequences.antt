@@ -8,13 +8,12 @@ use Rattle.c_tree.specs.declared.typed.expression.TExpr.{TExpr}
 use Rattle.c_tree.specs.declared.typed.expression.TExpr.TheVariants as x
 use Rattle.c_typing.specs.declared.operand.Operand.{Operand}
 use Rattle.c_typing.specs.declared.declarator.Part.{Part}
-use Rattle.c_typing.specs.declared.declarator.Part.TheVariants.{Arraying}
 use Rattle.c_typing.specs.Types.{int}
 use Rattle.c_typing.specs.Operands.{tree_of, value, dropping}
 use Rattle.c_typing.specs.Scopes.{Walk, give, offer, ◌>>=◌, asked}
 use Rattle.c_typing.specs.Expressions as rows
 use Rattle.c_typing.specs.Expressions.{truth_row}
-use Rattle.c_typing.specs.Declarators.{Expressed, count_row}
+use Rattle.c_typing.specs.Declarators.{Expressed, count_row, array_part}
 use Rattle.c_typing.specs.Parts.{Prefixing, Prefixed, Operating, Branching}
 use Rattle.c_typing.specs.OfTrees.{each, prefix_walk, prefixes_row, chain_row, chain_end, assigns_row, assigned_end, comma_of, pointing}
 use Rattle.c_type_trees.specs.declared.sequences.Choice.{Choice}
@@ -93,4 +92,4 @@ parts_if_both ps (Some inner) (Some outer) = Some (pointing ps ++ (reverse outer
 parts_if_both ps _ _ = None
 
 abbrev pub sized_row : (bracket first : Pos) → Option Operand → Walk Part
-sized_row bracket first o = asked o (count_row bracket first) >>= λ n. asked n (λ n. give (Arraying (Some n)))
+sized_row bracket first o = asked o (count_row bracket first) >>= λ n. give (array_part n)

@@ -36,7 +36,10 @@ impl<F: Fn(Global, &mut Found, &Around<'_>, u64, Tree<'_>) -> Result<Typed, Memo
         let inside = defines_inside(makes, defining);
         let inner = self.direct_parts(found, around, &tree.direct, inside)?;
         let beside = defines_beside(makes, defining);
-        let outer = self.suffixes_parts(found, around, tree.suffixes.as_slice(), beside)?;
+        let outer = or_drop!(
+            self.suffixes_parts(found, around, tree.suffixes.as_slice(), beside),
+            inner
+        );
         parts_if_both(self.alloc, tree.pointers.as_slice(), inner, outer)
     }
 
@@ -72,7 +75,7 @@ impl<F: Fn(Global, &mut Found, &Around<'_>, u64, Tree<'_>) -> Result<Typed, Memo
         let mut all = Some(Items::new(self.alloc));
         let mut kept = defining;
         for one in list {
-            let part = self.suffix_part(found, around, one, kept)?;
+            let part = or_drop!(self.suffix_part(found, around, one, kept), all);
             all = joined(all, part)?;
             kept = false;
         }

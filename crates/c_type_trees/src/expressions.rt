@@ -35,10 +35,10 @@ impl<F: Fn(Global, &mut Found, &Around<'_>, u64, Tree<'_>) -> Result<Typed, Memo
         let mut begun = Items::new(self.alloc);
         let mut innermost = tree;
         while let Some(operand) = first_operand(innermost) {
-            begun.push(innermost)?;
+            or_drop!(begun.push(innermost), begun);
             innermost = operand;
         }
-        let value = self.other(found, around, innermost)?;
+        let value = or_drop!(self.other(found, around, innermost), begun);
         self.behind_all(found, around, begun, value)
     }
 
@@ -55,8 +55,9 @@ impl<F: Fn(Global, &mut Found, &Around<'_>, u64, Tree<'_>) -> Result<Typed, Memo
     {
         let mut value = first;
         while let Some(tree) = begun.pop() {
-            value = self.behind(found, around, tree, value)?;
+            value = or_drop!(self.behind(found, around, tree, value), begun);
         }
+        drop(begun);
         Ok(value)
     }
 

@@ -8,6 +8,34 @@
 //! what is known of a tree without typing it, and `operands`, `sequences` and `types` what is done with what the walk of a part gave.
 #![tactic(auto)]
 
+/// What a call gave; where memory was wanting, what was kept till then is let go of by name.
+///
+/// `?` says the same, but the proof that it lets go of each value that is there takes long.
+macro_rules! or_drop {
+    ($given:expr, $($kept:ident),+) => {
+        match $given {
+            Ok(given) => given,
+            Err(_) => {
+                $(drop($kept);)+
+                return Err(word_ops::Memory);
+            }
+        }
+    };
+}
+
+/// What is there; where it is not, there is nothing, and what was kept is let go of by name, for the same reason.
+macro_rules! some_or_drop {
+    ($given:expr, $($kept:ident),+) => {
+        match $given {
+            Some(given) => given,
+            None => {
+                $(drop($kept);)+
+                return Ok(None);
+            }
+        }
+    };
+}
+
 mod calls;
 mod declarators;
 mod expressions;

@@ -52,7 +52,7 @@ impl<F: Fn(Global, &mut Found, &Around<'_>, u64, Tree<'_>) -> Result<Typed, Memo
     {
         let mut all = Some(Items::new(self.alloc));
         for one in list {
-            let more = self.member(found, around, one)?;
+            let more = or_drop!(self.member(found, around, one), all);
             all = members_joined(all, more)?;
         }
         Ok(all)
@@ -69,7 +69,9 @@ impl<F: Fn(Global, &mut Found, &Around<'_>, u64, Tree<'_>) -> Result<Typed, Memo
         ensures { Walks (typing.member_typing tree.now) around.now found.old result found.new }
     {
         let basis = self.specifiers(found, around, false, tree.specifiers.as_slice())?;
-        self.member_declarators(found, around, &basis, tree.declarators.as_slice())
+        let all = self.member_declarators(found, around, &basis, tree.declarators.as_slice());
+        drop(basis);
+        all
     }
 
     /// The declarators of a declaration of members.
@@ -85,7 +87,7 @@ impl<F: Fn(Global, &mut Found, &Around<'_>, u64, Tree<'_>) -> Result<Typed, Memo
     {
         let mut all = Some(Items::new(self.alloc));
         for one in list {
-            let more = self.member_declarator(found, around, basis, one)?;
+            let more = or_drop!(self.member_declarator(found, around, basis, one), all);
             all = members_joined(all, more)?;
         }
         Ok(all)

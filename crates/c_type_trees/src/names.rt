@@ -156,7 +156,7 @@ pub(crate) fn bytes_of_all(alloc: Global, all: &[Literal]) -> Result<Text, Memor
 {
     let mut bytes = Vec::new(alloc);
     for one in all {
-        bytes.extend_from_slice(one.bytes.as_slice())?;
+        or_drop!(bytes.extend_from_slice(one.bytes.as_slice()), bytes);
     }
     Ok(Text::from_vec(bytes))
 }

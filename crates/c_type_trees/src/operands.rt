@@ -67,9 +67,8 @@ pub(crate) fn binary_if_both(
 ) -> Result<Option<Operand>, Memory>
     ensures { Walks (scopes.both_asked left right (rows.binary_row mark)) around.now found.old result found.new }
 {
-    let (Some(left), Some(right)) = (left, right) else {
-        return Ok(None);
-    };
+    let left = some_or_drop!(left, right);
+    let right = some_or_drop!(right, left);
     binary_row(alloc, found, around, mark, left, right)
 }
 
@@ -83,9 +82,8 @@ pub(crate) fn prefix_if_both(
 ) -> Result<Option<Operand>, Memory>
     ensures { Walks (scopes.both_asked (option_map prefixing prefix) operand spec.prefix_row) around.now found.old result found.new }
 {
-    let (Some(prefix), Some(operand)) = (prefix, operand) else {
-        return Ok(None);
-    };
+    let prefix = some_or_drop!(prefix, operand);
+    let operand = some_or_drop!(operand, prefix);
     prefix_row(alloc, found, around, prefix, operand)
 }
 
@@ -100,9 +98,8 @@ pub(crate) fn index_if_both(
 ) -> Result<Option<Operand>, Memory>
     ensures { Walks (scopes.both_asked operand index (rows.index_row place)) around.now found.old result found.new }
 {
-    let (Some(operand), Some(index)) = (operand, index) else {
-        return Ok(None);
-    };
+    let operand = some_or_drop!(operand, index);
+    let index = some_or_drop!(index, operand);
     index_row(alloc, found, around, place, operand, index)
 }
 
@@ -115,9 +112,10 @@ pub(crate) fn bad_call_if_any(
 ) -> Result<Option<Operand>, Memory>
     ensures { Walks (scopes.asked operand (λ o. scopes.tell kind.BadCall place)) around.now found.old result found.new }
 {
-    if operand.is_none() {
+    let Some(operand) = operand else {
         return Ok(None);
-    }
+    };
+    drop(operand);
     found.tell(around, FaultKind::BadCall, place)
 }
 
@@ -235,5 +233,7 @@ pub(crate) fn size_if_any(
     let Some(ctype) = ctype else {
         return Ok(None);
     };
-    size_row(alloc, found, around, place, &ctype)
+    let size = size_row(alloc, found, around, place, &ctype);
+    drop(ctype);
+    size
 }

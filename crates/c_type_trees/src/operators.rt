@@ -56,7 +56,7 @@ impl<F: Fn(Global, &mut Found, &Around<'_>, u64, Tree<'_>) -> Result<Typed, Memo
     {
         let mut value = first;
         for next in rest {
-            let right = self.expr(found, around, &next.operand)?;
+            let right = or_drop!(self.expr(found, around, &next.operand), value);
             value = binary_if_both(self.alloc, found, around, next.operator, value, right)?;
         }
         Ok(value)
@@ -97,8 +97,11 @@ impl<F: Fn(Global, &mut Found, &Around<'_>, u64, Tree<'_>) -> Result<Typed, Memo
     {
         let mut all = done;
         for next in rest {
-            let right = self.expr(found, around, &next.operand)?;
-            let truth = truth_if_any(self.alloc, found, around, next.operator.place, right)?;
+            let right = or_drop!(self.expr(found, around, &next.operand), all);
+            let truth = or_drop!(
+                truth_if_any(self.alloc, found, around, next.operator.place, right),
+                all
+            );
             all = with_truth(self.alloc, all, truth)?;
         }
         Ok(all)
@@ -118,14 +121,14 @@ impl<F: Fn(Global, &mut Found, &Around<'_>, u64, Tree<'_>) -> Result<Typed, Memo
         let mut choices = Items::new(self.alloc);
         let mut last = first;
         for branch in rest {
-            let gives = self.expr(found, around, &branch.gives)?;
-            let next = self.expr(found, around, &branch.operand)?;
-            choices.push(Choice {
+            let gives = or_drop!(self.expr(found, around, &branch.gives), choices, last);
+            let choice = Choice {
                 question: branch.question,
                 condition: last,
                 gives,
-            })?;
-            last = next;
+            };
+            or_drop!(choices.push(choice), choices);
+            last = or_drop!(self.expr(found, around, &branch.operand), choices);
         }
         chosen_by(self.alloc, found, around, choices, last)
     }
@@ -144,12 +147,12 @@ impl<F: Fn(Global, &mut Found, &Around<'_>, u64, Tree<'_>) -> Result<Typed, Memo
         let mut left = Items::new(self.alloc);
         let mut last = first;
         for next in rest {
-            let value = self.expr(found, around, &next.operand)?;
-            left.push(LeftSide {
+            let side = LeftSide {
                 operand: last,
                 operator: next.operator,
-            })?;
-            last = value;
+            };
+            or_drop!(left.push(side), left);
+            last = or_drop!(self.expr(found, around, &next.operand), left);
         }
         assigned_by(self.alloc, found, around, left, last)
     }
@@ -169,7 +172,7 @@ impl<F: Fn(Global, &mut Found, &Around<'_>, u64, Tree<'_>) -> Result<Typed, Memo
         let mut last = first;
         for next in rest {
             dropped = with_dropped(self.alloc, dropped, last)?;
-            last = self.expr(found, around, &next.operand)?;
+            last = or_drop!(self.expr(found, around, &next.operand), dropped);
         }
         comma_if_both(self.alloc, dropped, last)
     }

@@ -13,13 +13,13 @@ use crate::names::{first_specifier, name};
 use crate::nested::{Tree, Typed};
 use crate::sequences::joined;
 use crate::types::{
-    adjusted_if_any, basis_type, copied_numbers, listing_if_any, parameter_basis_if_any,
+    adjusted_if_any, basis_type, copied_numbers, parameter_basis_if_any,
     parameter_if_both, register_of,
 };
 use crate::walker::Walker;
 use c_tree::typed::CType;
 use c_tree::{Declarator, Parameter, Pos};
-use c_type_declarators::name_place;
+use c_type_declarators::{function_part, name_place};
 use c_type_walk::{Around, Found};
 use c_typing::{Basis, Part};
 use std::alloc::Global;
@@ -41,7 +41,7 @@ impl<F: Fn(Global, &mut Found, &Around<'_>, u64, Tree<'_>) -> Result<Typed, Memo
         ensures { Walks (spec.listing defining (spec.parameters_row 0 (map typing.parameter_typing list.now))) around.now found.old result found.new }
     {
         let all = self.listed(found, around, list, defining)?;
-        Ok(listing_if_any(all))
+        Ok(Some(function_part(all)))
     }
 
     /// The parameters of such a list.
@@ -79,7 +79,7 @@ impl<F: Fn(Global, &mut Found, &Around<'_>, u64, Tree<'_>) -> Result<Typed, Memo
             at_file_level: false,
             ..around.in_scope(found)
         };
-        let all = self.parameters(found, &inside, list)?;
+        let all = or_drop!(self.parameters(found, &inside, list), addressed);
         found.close(names, tags);
         found.state.addressed = addressed;
         Ok(all)
@@ -98,9 +98,10 @@ impl<F: Fn(Global, &mut Found, &Around<'_>, u64, Tree<'_>) -> Result<Typed, Memo
         let mut all = Some(Items::new(self.alloc));
         let mut number: u32 = 0;
         for one in list {
-            let given = self.parameter(found, around, one, number)?;
+            let given = or_drop!(self.parameter(found, around, one, number), all);
             all = joined(all, given)?;
             let Some(next) = number.checked_add(1) else {
+                drop(all);
                 return Err(Memory);
             };
             number = next;

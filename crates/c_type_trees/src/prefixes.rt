@@ -36,7 +36,7 @@ impl<F: Fn(Global, &mut Found, &Around<'_>, u64, Tree<'_>) -> Result<Typed, Memo
         ensures { Walks (sequences.prefixed_row (map typing.prefix_typing run.now) (typing.expr_typing operand.now)) around.now found.old result found.new }
     {
         let all = self.prefixes(found, around, run)?;
-        let value = self.expr(found, around, operand)?;
+        let value = or_drop!(self.expr(found, around, operand), all);
         prefixed_if_any(self.alloc, found, around, all, value)
     }
 
@@ -52,8 +52,8 @@ impl<F: Fn(Global, &mut Found, &Around<'_>, u64, Tree<'_>) -> Result<Typed, Memo
     {
         let mut all = Items::new(self.alloc);
         for one in run {
-            let given = self.prefix(found, around, one)?;
-            all.push(given)?;
+            let given = or_drop!(self.prefix(found, around, one), all);
+            or_drop!(all.push(given), all);
         }
         Ok(Some(all))
     }

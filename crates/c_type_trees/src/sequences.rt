@@ -1,7 +1,7 @@
 //! Lists of operators, from what the walks of their operands gave.
 //! No walk: each hands a list to the rows of c_type_expressions, where it has to be from its right end.
 
-ghost use Rattle.std.specs.Prelude.{◌≡◌, IfOk, map};
+ghost use Rattle.std.specs.Prelude.{◌≡◌, ◌++◌, ◌∷◌, [], IfOk, map};
 ghost use Rattle.std.specs.Option.{option_map};
 ghost use Rattle.c_typing.specs.OfTrees as spec;
 ghost use Rattle.c_typing.specs.Scopes as scopes;
@@ -45,6 +45,14 @@ pub(crate) struct LeftSide {
     pub operator: Mark,
 }
 
+/// One more item. What it is made of does not matter here, so that the proof of a list that is let go of is short.
+pub(crate) fn pushed<A: Drop>(mut all: Vec<A>, one: A) -> Result<Vec<A>, Memory>
+    ensures { IfOk result (λ r. r.items ≡ all.items ++ one ∷ []) }
+{
+    or_drop!(all.push(one), all);
+    Ok(all)
+}
+
 /// One more item, where there are items before it and it is one.
 pub(crate) fn joined<A: Drop>(
     all: Option<Items<A>>,
@@ -52,10 +60,9 @@ pub(crate) fn joined<A: Drop>(
 ) -> Result<Option<Items<A>>, Memory>
     ensures { IfOk result (λ r. r ≡ lists.one_more all one) }
 {
-    let (Some(mut all), Some(one)) = (all, one) else {
-        return Ok(None);
-    };
-    all.push(one)?;
+    let mut all = some_or_drop!(all, one);
+    let one = some_or_drop!(one, all);
+    or_drop!(all.push(one), all);
     Ok(Some(all))
 }
 
@@ -71,8 +78,9 @@ pub(crate) fn prefixed_by(
 {
     let mut value = operand;
     while let Some(prefix) = run.pop() {
-        value = prefix_if_both(alloc, found, around, prefix, value)?;
+        value = or_drop!(prefix_if_both(alloc, found, around, prefix, value), run);
     }
+    drop(run);
     Ok(value)
 }
 
@@ -86,9 +94,7 @@ pub(crate) fn prefixed_if_any(
 ) -> Result<Option<Operand>, Memory>
     ensures { Walks (scopes.asked (option_map (λ all. map (option_map prefixing) all) run) (λ all. spec.prefixes_row all operand)) around.now found.old result found.new }
 {
-    let Some(run) = run else {
-        return Ok(None);
-    };
+    let run = some_or_drop!(run, operand);
     prefixed_by(alloc, found, around, run, operand)
 }
 
@@ -114,10 +120,10 @@ pub(crate) fn with_truth(
 ) -> Result<Option<Items<TExpr>>, Memory>
     ensures { IfOk result (λ r. r ≡ sequences.with_truth all truth) }
 {
-    let (Some(mut all), Some(truth)) = (all, truth) else {
-        return Ok(None);
-    };
-    all.push(tree_of(alloc, truth)?)?;
+    let mut all = some_or_drop!(all, truth);
+    let truth = some_or_drop!(truth, all);
+    let tree = or_drop!(tree_of(alloc, truth), all);
+    or_drop!(all.push(tree), all);
     Ok(Some(all))
 }
 
@@ -141,11 +147,11 @@ pub(crate) fn with_dropped(
 ) -> Result<Option<Items<TExpr>>, Memory>
     ensures { IfOk result (λ r. r ≡ sequences.with_dropped all operand) }
 {
-    let (Some(mut all), Some(operand)) = (all, operand) else {
-        return Ok(None);
-    };
-    let operand = dropping(alloc, operand)?;
-    all.push(tree_of(alloc, operand)?)?;
+    let mut all = some_or_drop!(all, operand);
+    let operand = some_or_drop!(operand, all);
+    let operand = or_drop!(dropping(alloc, operand), all);
+    let tree = or_drop!(tree_of(alloc, operand), all);
+    or_drop!(all.push(tree), all);
     Ok(Some(all))
 }
 
@@ -157,9 +163,8 @@ pub(crate) fn comma_if_both(
 ) -> Result<Option<Operand>, Memory>
     ensures { IfOk result (λ r. r ≡ sequences.comma_if_both dropped last) }
 {
-    let (Some(dropped), Some(last)) = (dropped, last) else {
-        return Ok(None);
-    };
+    let dropped = some_or_drop!(dropped, last);
+    let last = some_or_drop!(last, dropped);
     Ok(Some(comma_of(alloc, dropped, last)?))
 }
 
@@ -173,15 +178,19 @@ pub(crate) fn chosen_by(
 ) -> Result<Option<Operand>, Memory>
     ensures { Walks (sequences.choices_row choices last) around.now found.old result found.new }
 {
-    let mut chain = last_of_chain(alloc, last)?;
+    let mut chain = or_drop!(last_of_chain(alloc, last), choices);
     while let Some(choice) = choices.pop() {
         let Choice {
             question,
             condition,
             gives,
         } = choice;
-        chain = conditional_row(alloc, found, around, question, condition, gives, chain)?;
+        chain = or_drop!(
+            conditional_row(alloc, found, around, question, condition, gives, chain),
+            choices
+        );
     }
+    drop(choices);
     value_of_chain(alloc, chain)
 }
 
@@ -215,11 +224,15 @@ pub(crate) fn assigned_by(
 ) -> Result<Option<Operand>, Memory>
     ensures { Walks (sequences.left_sides_row left last) around.now found.old result found.new }
 {
-    let mut assigned = last_assigned(alloc, last)?;
+    let mut assigned = or_drop!(last_assigned(alloc, last), left);
     while let Some(side) = left.pop() {
         let LeftSide { operand, operator } = side;
-        assigned = assign_row(alloc, found, around, operator, operand, assigned)?;
+        assigned = or_drop!(
+            assign_row(alloc, found, around, operator, operand, assigned),
+            left
+        );
     }
+    drop(left);
     value_of_assigned(alloc, assigned)
 }
 

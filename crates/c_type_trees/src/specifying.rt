@@ -18,7 +18,7 @@ use crate::walker::Walker;
 use c_tree::typed::{Base, CType};
 use c_tree::{Enumerator, Identifier, Specifier};
 use c_type_declarators::{
-    SpecifierParts, basis_of, enum_begun, enum_tag_row, following_number, plain_enumerator,
+    SpecifierParts, basis_of, enum_begun, enum_ended, enum_tag_row, following_number, plain_enumerator,
     struct_tag_row, typedef_named, valued_enumerator,
 };
 use c_type_rules::plain;
@@ -86,10 +86,7 @@ impl<F: Fn(Global, &mut Found, &Around<'_>, u64, Tree<'_>) -> Result<Typed, Memo
         requires { Nests WalksTree self.now.more (F.pre self.now.inside) (F.post self.now.inside) }
         ensures { WalksAs parts_of (spec.with_named alone (parts_of parts) (typing.specifier_typing tree.now).specifying) around.now found.old result found.new }
     {
-        let Ok(ctype) = self.named(found, around, alone, tree) else {
-            drop(parts);
-            return Err(Memory);
-        };
+        let ctype = or_drop!(self.named(found, around, alone, tree), parts);
         with_type(parts, ctype)
     }
 
@@ -144,7 +141,7 @@ impl<F: Fn(Global, &mut Found, &Around<'_>, u64, Tree<'_>) -> Result<Typed, Memo
             let value = self.enumerator(found, around, one, next)?;
             next = following_number(value);
         }
-        Ok(Some(plain(self.alloc, Base::Enum(number))))
+        enum_ended(self.alloc, found, around, tag.as_ref(), number)
     }
 
     /// An enumerator, from the value that it has without an expression (C11 6.7.2.2p3).

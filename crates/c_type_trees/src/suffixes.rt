@@ -15,6 +15,7 @@ use crate::nested::{Tree, Typed};
 use crate::operands::{
     arrow_if_any, bad_call_if_any, call_if_any, increment_if_any, index_if_both, member_if_any,
 };
+use crate::sequences::pushed;
 use crate::walker::Walker;
 use c_tree::{Expr, Identifier, Next, Pos, Punct, Suffix};
 use c_type_expressions::Argument;
@@ -101,8 +102,7 @@ impl<F: Fn(Global, &mut Found, &Around<'_>, u64, Tree<'_>) -> Result<Typed, Memo
         ensures { WalksAs (λ v. v.items) (calls.all_arguments first.now rest.now) around.now found.old result found.new }
     {
         let value = self.expr(found, around, first)?;
-        let mut all = Vec::new(self.alloc);
-        all.push((first_token(first), value))?;
+        let all = pushed(Vec::new(self.alloc), (first_token(first), value))?;
         self.more_arguments(found, around, rest, all)
     }
 
@@ -119,8 +119,8 @@ impl<F: Fn(Global, &mut Found, &Around<'_>, u64, Tree<'_>) -> Result<Typed, Memo
     {
         let mut all = before;
         for next in rest {
-            let value = self.expr(found, around, &next.operand)?;
-            all.push((first_token(&next.operand), value))?;
+            let value = or_drop!(self.expr(found, around, &next.operand), all);
+            all = pushed(all, (first_token(&next.operand), value))?;
         }
         Ok(Some(all))
     }
@@ -186,10 +186,7 @@ impl<F: Fn(Global, &mut Found, &Around<'_>, u64, Tree<'_>) -> Result<Typed, Memo
         requires { Nests WalksTree self.now.more (F.pre self.now.inside) (F.post self.now.inside) }
         ensures { Walks (calls.indexed place (typing.expr_typing inner.now) operand) around.now found.old result found.new }
     {
-        let Ok(index) = self.expr(found, around, inner) else {
-            drop(operand);
-            return Err(Memory);
-        };
+        let index = or_drop!(self.expr(found, around, inner), operand);
         index_if_both(self.alloc, found, around, place, operand, index)
     }
 
@@ -206,10 +203,7 @@ impl<F: Fn(Global, &mut Found, &Around<'_>, u64, Tree<'_>) -> Result<Typed, Memo
         requires { Nests WalksTree self.now.more (F.pre self.now.inside) (F.post self.now.inside) }
         ensures { Walks (calls.called_value place first.now rest.now operand) around.now found.old result found.new }
     {
-        let Ok(arguments) = self.all_arguments(found, around, first, rest) else {
-            drop(operand);
-            return Err(Memory);
-        };
+        let arguments = or_drop!(self.all_arguments(found, around, first, rest), operand);
         drop(arguments);
         bad_call_if_any(found, around, place, operand)
     }

@@ -17,7 +17,7 @@ ghost use Rattle.c_type_trees.specs.Sequences as sequences;
 use c_tree::typed::CType;
 use c_tree::{Identifier, Pointer, Pos, Storage, TypeWord};
 use c_type_declarators::{
-    SpecifierParts, adjusted_parameter, count_row, declarator_parts, derive, is_register,
+    SpecifierParts, adjusted_parameter, array_part, count_row, declarator_parts, derive, is_register,
     members_row, parameter_basis, parameter_given,
 };
 use c_type_rules::copied;
@@ -38,7 +38,7 @@ pub(crate) fn with_storage(
 ) -> Result<Option<SpecifierParts>, Memory>
     ensures { IfOk result (λ r. option_map parts_of r ≡ Some (record (parts_of parts) { storages = (parts_of parts).storages ++ storage ∷ [] })) }
 {
-    parts.add_storage(storage)?;
+    or_drop!(parts.add_storage(storage), parts);
     Ok(Some(parts))
 }
 
@@ -57,7 +57,7 @@ pub(crate) fn with_word(
 ) -> Result<Option<SpecifierParts>, Memory>
     ensures { IfOk result (λ r. option_map parts_of r ≡ Some (record (parts_of parts) { words = (parts_of parts).words ++ word ∷ [] })) }
 {
-    parts.add_word(word)?;
+    or_drop!(parts.add_word(word), parts);
     Ok(Some(parts))
 }
 
@@ -68,7 +68,7 @@ pub(crate) fn with_type(
 ) -> Result<Option<SpecifierParts>, Memory>
     ensures { IfOk result (λ r. option_map parts_of r ≡ Some (spec.with_type (parts_of parts) ctype)) }
 {
-    parts.add_type(ctype)?;
+    or_drop!(parts.add_type(ctype), parts);
     Ok(Some(parts))
 }
 
@@ -105,10 +105,11 @@ pub(crate) fn derive_if_both(
 ) -> Result<Option<CType>, Memory>
     ensures { Walks (scopes.both_asked parts basis (spec.derive place)) around.now found.old result found.new }
 {
-    let (Some(parts), Some(basis)) = (parts, basis) else {
-        return Ok(None);
-    };
-    derive(alloc, found, around, place, parts.as_slice(), basis)
+    let parts = some_or_drop!(parts, basis);
+    let basis = some_or_drop!(basis, parts);
+    let derived = derive(alloc, found, around, place, parts.as_slice(), basis);
+    drop(parts);
+    derived
 }
 
 /// Whether the parameters of the part beside the name are those of a definition, where that part stands in the declarator's middle.
@@ -134,9 +135,8 @@ pub(crate) fn parts_if_both(
 ) -> Result<Option<Items<Part>>, Memory>
     ensures { IfOk result (λ r. r ≡ sequences.parts_if_both pointers.now inner outer) }
 {
-    let (Some(inner), Some(outer)) = (inner, outer) else {
-        return Ok(None);
-    };
+    let inner = some_or_drop!(inner, outer);
+    let outer = some_or_drop!(outer, inner);
     Ok(Some(declarator_parts(alloc, pointers, outer, inner)?))
 }
 
@@ -151,23 +151,11 @@ pub(crate) fn sized_array(
 ) -> Result<Option<Part>, Memory>
     ensures { Walks (sequences.sized_row bracket first operand) around.now found.old result found.new }
 {
-    let Some(operand) = operand else {
-        return Ok(None);
-    };
-    match count_row(alloc, found, around, bracket, first, operand)? {
-        Some(count) => Ok(Some(Part::Arraying(Some(count)))),
-        None => Ok(None),
-    }
-}
-
-/// A function of these parameters (C11 6.7.6.3).
-pub(crate) fn listing_if_any(parameters: Option<Items<Parameter>>) -> Option<Part>
-    ensures { result ≡ option_map part.Listing parameters }
-{
-    match parameters {
-        Some(parameters) => Some(Part::Listing(parameters)),
+    let count = match operand {
+        Some(operand) => count_row(alloc, found, around, bracket, first, operand)?,
         None => None,
-    }
+    };
+    Ok(Some(array_part(count)))
 }
 
 // ---- parameters
@@ -205,7 +193,7 @@ pub(crate) fn adjusted_if_any(
     place: Pos,
     ctype: Option<CType>,
 ) -> Result<Option<CType>, Memory>
-    ensures { Walks (scopes.asked ctype (λ t. spec.complete_row place (spec.adjusted (types.shape t) t))) around.now found.old result found.new }
+    ensures { Walks (scopes.asked ctype (λ t. spec.complete_parameter place (spec.adjusted (types.shape t) t))) around.now found.old result found.new }
 {
     match ctype {
         Some(ctype) => adjusted_parameter(alloc, found, around, place, ctype),
@@ -226,7 +214,8 @@ pub(crate) fn parameter_if_both(
 ) -> Result<Option<Parameter>, Memory>
     ensures { Walks (scopes.both_asked in_register ctype (parameter_given (option_copied name.entry) first number)) around.now found.old result found.new }
 {
-    let (Some(in_register), Some(ctype)) = (in_register, ctype) else {
+    let in_register = some_or_drop!(in_register, ctype);
+    let Some(ctype) = ctype else {
         return Ok(None);
     };
     parameter_given(
@@ -257,10 +246,9 @@ pub(crate) fn members_joined(
 ) -> Result<Option<Items<NamedMember>>, Memory>
     ensures { IfOk result (λ r. r ≡ lists.both_joined all more) }
 {
-    let (Some(mut all), Some(more)) = (all, more) else {
-        return Ok(None);
-    };
-    all.append(more)?;
+    let mut all = some_or_drop!(all, more);
+    let more = some_or_drop!(more, all);
+    or_drop!(all.append(more), all);
     Ok(Some(all))
 }
 
@@ -275,8 +263,11 @@ pub(crate) fn members_if_both(
 ) -> Result<Option<CType>, Memory>
     ensures { Walks (scopes.both_asked number members (spec.members_row place)) around.now found.old result found.new }
 {
-    let (Some(number), Some(members)) = (number, members) else {
+    let Some(members) = members else {
         return Ok(None);
     };
-    members_row(alloc, found, around, place, number, members.as_slice())
+    let number = some_or_drop!(number, members);
+    let made = members_row(alloc, found, around, place, number, members.as_slice());
+    drop(members);
+    made
 }

@@ -103,7 +103,7 @@ impl<F: Fn(Global, &mut Found, &Around<'_>, u64, Tree<'_>) -> Result<Typed, Memo
         requires { Nests WalksTree self.now.more (F.pre self.now.inside) (F.post self.now.inside) }
         ensures { Walks (declarators.declared_type (typing.declarator_typing tree.now) defining place basis) around.now found.old result found.new }
     {
-        let all = self.parts(found, around, tree, defining)?;
+        let all = or_drop!(self.parts(found, around, tree, defining), basis);
         let place = name_place(name(tree), place);
         derive_if_both(self.alloc, found, around, place, all, basis)
     }

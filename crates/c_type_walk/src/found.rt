@@ -38,6 +38,7 @@ impl Found {
                 names: ScopeMap::new(alloc),
                 tags: ScopeMap::new(alloc),
                 structs: Tags::new(alloc),
+                fixed: Items::new(alloc),
                 enums: 0,
                 linked: ScopeMap::new(alloc),
                 starts: ScopeMap::new(alloc),

@@ -9,7 +9,7 @@ use Rattle.c_tree.specs.declared.typed.statement.Objects.{Objects}
 use Rattle.c_tree.specs.declared.typed.unit.Object.{Object}
 use Rattle.c_tree.specs.declared.typed.types.CType.{CType}
 use Rattle.c_typing.specs.declared.declarator.Part.{Part}
-use Rattle.c_typing.specs.declared.declarator.Part.TheVariants.{Pointing, Arraying, Listing}
+use Rattle.c_typing.specs.declared.declarator.Part.TheVariants.{Pointing, Arraying, SomeArray, Listing, SomeFunction}
 use Rattle.c_typing.specs.declared.declarator.Parameter.{Parameter}
 use Rattle.c_typing.specs.Scopes.{Walk, give, ◌>>=◌, asked, here}
 use Rattle.c_typing.specs.Scopes as scopes
@@ -28,6 +28,8 @@ pub parameters_last : (ds : List Part) (d : Part) → parameters_of (ds ++ d ∷
 parameters_last [] d = refl
 parameters_last (Pointing c ∷ ds) d = parameters_last ds d
 parameters_last (Arraying n ∷ ds) d = parameters_last ds d
+parameters_last (SomeArray ∷ ds) d = parameters_last ds d
+parameters_last (SomeFunction ∷ ds) d = parameters_last ds d
 parameters_last (Listing ps ∷ []) d = refl
 parameters_last (Listing ps ∷ e ∷ ds) d = parameters_last (e ∷ ds) d
 

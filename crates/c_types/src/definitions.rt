@@ -310,6 +310,8 @@ fn listed(alloc: Global, part: Part) -> Items<Parameter>
         Part::Listing(parameters) => parameters,
         Part::Pointing(_) => Items::new(alloc),
         Part::Arraying(_) => Items::new(alloc),
+        Part::SomeArray => Items::new(alloc),
+        Part::SomeFunction => Items::new(alloc),
     }
 }
 

@@ -23,9 +23,10 @@ use Rattle.c_typing.specs.Conversions.{is_signed}
 use Rattle.c_typing.specs.Scopes.{Name, Meaning, TypedefOf, EnumeratorOf, Unknown, Tag, StructTag, EnumTag, State, Walk, give, unasked, tell, offer, ◌>>=◌, asked, both_asked, beside, fault_if, unless, here, change, joined, in_row, latest, declaring, tagging, own_meaning, own_tag}
 pub use Rattle.c_typing.specs.declared.declarator.Parameter.{Parameter}
 pub use Rattle.c_typing.specs.declared.declarator.Part.{Part}
-pub use Rattle.c_typing.specs.declared.declarator.Part.TheVariants.{Pointing, Arraying, Listing}
+pub use Rattle.c_typing.specs.declared.declarator.Part.TheVariants.{Pointing, Arraying, SomeArray, Listing, SomeFunction}
 pub use Rattle.c_typing.specs.declared.declarator.Basis.{Basis}
 use Rattle.c_typing.specs.Operands.{Operand, constant_in, valued}
+use Rattle.c_typing.specs.Expressions.{is_read_only}
 
 -- ---- what the parts of a tree are
 
@@ -105,16 +106,42 @@ array_if at t count None = tell kind.Incomplete at
 array_if at t None (Some n) = give (derived_from t (derived.Array None))
 array_if at t (Some k) (Some n) = unless (nat_lt (2 ^ 24) (k * n)) kind.TooLarge at (give (derived_from t (derived.Array (Some k))))
 
--- one derivation, with the place that stands for the name
+abbrev pub array_row : Pos → Option ℕ → CType → Walk CType
+array_row at count t = unless (is_function t) kind.FunctionUse at (here (λ c s. array_if at t count (size_of s.structs t)))
+
+abbrev pub function_row : Pos → List CType → CType → Walk CType
+function_row at ps t = unless (is_function t || is_array t) kind.FunctionUse at (give (derived_from t (derived.Function ps)))
+
+-- one derivation, with the place that stands for the name; what has a fault in it is an array or a function all the same
 abbrev pub derive_one : Pos → Part → CType → Walk CType
 derive_one at (Pointing c) t = unless (is_function t) kind.FunctionUse at (give (pointer_to c t))
-derive_one at (Arraying count) t = unless (is_function t) kind.FunctionUse at (here (λ c s. array_if at t count (size_of s.structs t)))
-derive_one at (Listing ps) t =
-    unless (is_function t || is_array t) kind.FunctionUse at (give (derived_from t (derived.Function (map (λ q. unqualified q.ctype) ps))))
+derive_one at (Arraying count) t = array_row at count t
+derive_one at SomeArray t = array_row at None t
+derive_one at (Listing ps) t = function_row at (map (λ q. unqualified q.ctype) ps) t
+derive_one at SomeFunction t = function_row at [] t
 
+abbrev pub derive_all : Pos → List Part → CType → Walk CType
+derive_all at [] t = give t
+derive_all at (d ∷ ds) t = derive_one at d t >>= λ u. asked u (derive_all at ds)
+
+-- a derivation without a fault in it
+abbrev pub is_settled : Part → Bool
+is_settled SomeArray = false
+is_settled SomeFunction = false
+is_settled d = true
+
+-- the derivations of a declarator; the type of the whole is known where there is no fault in any
 abbrev pub derive : Pos → List Part → CType → Walk CType
-derive at [] t = give t
-derive at (d ∷ ds) t = derive_one at d t >>= λ u. asked u (derive at ds)
+derive at ds t = derive_all at ds t >>= λ u. if list_all is_settled ds then offer u else unasked
+
+-- an array of so many elements, or a function of such parameters, where there is no fault in them
+abbrev pub array_part : Option ℕ → Part
+array_part (Some n) = Arraying (Some n)
+array_part None = SomeArray
+
+abbrev pub function_part : Option (List Parameter) → Part
+function_part (Some ps) = Listing ps
+function_part None = SomeFunction
 
 -- the place that stands for the name of a declarator
 abbrev pub name_place : Option Identifier → Pos → Pos
@@ -133,6 +160,10 @@ adjusted s u = u
 -- an object needs a complete type (6.7p7)
 abbrev pub complete_row : Pos → CType → Walk CType
 complete_row at t = here (λ c s. unless (is_none (size_of s.structs t)) kind.Incomplete at (give t))
+
+-- so does a parameter, of which the type is told all the same (6.7.6.3p4)
+abbrev pub complete_parameter : Pos → CType → Walk CType
+complete_parameter at t = here (λ c s. beside (fault_if (is_none (size_of s.structs t)) kind.Incomplete at) (give t))
 
 -- ---- specifiers
 
@@ -262,7 +293,7 @@ specifiers_row alone ss = read_specifiers alone nothing ss >>= λ r. asked r (ba
 -- ---- tags (6.7.2.3)
 
 abbrev pub add_struct : State → State
-add_struct s = record s { structs = s.structs ++ None ∷ [] }
+add_struct s = record s { structs = s.structs ++ None ∷ []; fixed = s.fixed ++ false ∷ [] }
 
 abbrev pub struct_type : ℕ → CType
 struct_type n = plain (base.Struct n)
@@ -270,7 +301,7 @@ struct_type n = plain (base.Struct n)
 -- a tag that is not visible is declared here, as an incomplete type (p8)
 abbrev pub struct_meant : Identifier → Option Tag → Walk CType
 struct_meant tag (Some (StructTag n listed)) = give (struct_type n)
-struct_meant tag (Some (EnumTag n)) = tell kind.Redeclared tag.place
+struct_meant tag (Some (EnumTag n ended)) = tell kind.Redeclared tag.place
 struct_meant tag None =
     here (λ c s. change add_struct (tagging tag.text (StructTag (length s.structs) false) (give (struct_type (length s.structs)))))
 
@@ -278,9 +309,10 @@ struct_meant tag None =
 abbrev pub struct_tag_row : Identifier → Bool → Walk CType
 struct_tag_row tag alone = here (λ c s. struct_meant tag (if alone then own_tag c s tag.text else latest s.tags tag.text))
 
--- `enum` and a tag, which is visible (p3)
+-- `enum` and a tag, which is visible, behind its list (p3)
 abbrev pub enum_meant : Identifier → Option Tag → Walk CType
-enum_meant tag (Some (EnumTag n)) = give (plain (base.Enum n))
+enum_meant tag (Some (EnumTag n true)) = give (plain (base.Enum n))
+enum_meant tag (Some (EnumTag n false)) = tell kind.Incomplete tag.place
 enum_meant tag (Some (StructTag n listed)) = tell kind.Redeclared tag.place
 enum_meant tag None = tell kind.Undeclared tag.place
 
@@ -315,8 +347,11 @@ abbrev pub all_members : List Members → Members
 all_members [] = []
 all_members (ms ∷ rest) = ms ++ all_members rest
 
+abbrev pub has_fixed : (fixed : List Bool) → StructLayout → Bool
+has_fixed fixed l = list_any (λ m. is_read_only fixed m.ctype) l.members
+
 abbrev pub layout_set : ℕ → StructLayout → State → State
-layout_set n l s = record s { structs = slice_set s.structs n (Some l) }
+layout_set n l s = record s { structs = slice_set s.structs n (Some l); fixed = slice_set s.fixed n (has_fixed s.fixed l) }
 
 abbrev pub as_declared : Members → Option (List Declared)
 as_declared [] = Some []
@@ -380,11 +415,15 @@ enumerators_row next (e ∷ es) = e.value next >>= λ n. enumerators_row (option
 abbrev pub add_enum : State → State
 add_enum s = record s { enums = s.enums + 1 }
 
+-- the tag is visible from where it stands on, and names a complete type behind the list (6.2.1p7, p4)
 abbrev pub enum_tagged : Option Identifier → ℕ → Walk (Unit {0}) → Walk (Unit {0})
 enum_tagged None n w = w
 enum_tagged (Some tag) n w = here (λ c s.
-    beside (fault_if (is_some (own_tag c s tag.text)) kind.Redeclared tag.place) (tagging tag.text (EnumTag n) w))
+    beside (fault_if (is_some (own_tag c s tag.text)) kind.Redeclared tag.place) (tagging tag.text (EnumTag n false) w))
+
+abbrev pub enum_ended : Option Identifier → ℕ → Walk CType
+enum_ended None n = give (plain (base.Enum n))
+enum_ended (Some tag) n = tagging tag.text (EnumTag n true) (give (plain (base.Enum n)))
 
 abbrev pub enum_row : Option Identifier → List Enumerated → Walk CType
-enum_row tag es = here (λ c s.
-    change add_enum (enum_tagged tag s.enums (enumerators_row (Some 0) es) >>= λ u. give (plain (base.Enum s.enums))))
+enum_row tag es = here (λ c s. change add_enum (enum_tagged tag s.enums (enumerators_row (Some 0) es) >>= λ u. enum_ended tag s.enums))

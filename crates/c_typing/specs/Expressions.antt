@@ -1,5 +1,5 @@
 -- The rows of expressions: what each operator says of its operands, and the typed tree that it makes (C11 6.5).
-use Rattle.std.specs.Prelude.{ℕ, zero, suc, ◌+◌, ◌==◌, ◌^◌, nat_lt, Bool, true, false, ◌&&◌, ◌||◌, not, if◌then◌else◌, List, [], ◌∷◌, ◌++◌, Option, Some, None, length, map, is_none}
+use Rattle.std.specs.Prelude.{ℕ, zero, suc, ◌+◌, ◌==◌, ◌^◌, nat_lt, Bool, true, false, ◌&&◌, ◌||◌, not, if◌then◌else◌, List, [], ◌∷◌, ◌++◌, Option, Some, None, length, map, is_none, slice_get, unwrap_or}
 use Rattle.std.specs.List.{list_any}
 use Rattle.std.specs.Str.{bytes_eq}
 use Rattle.c_tree.specs.declared.token.Pos.{Pos}
@@ -17,6 +17,7 @@ use Rattle.c_tree.specs.declared.typed.operator.Arithmetic.{Arithmetic}
 use Rattle.c_tree.specs.declared.typed.operator.Given.{Given}
 use Rattle.c_tree.specs.declared.typed.operator.Increment.{Increment}
 use Rattle.c_tree.specs.declared.typed.operator.Primary.TheVariants as primary
+use Rattle.c_tree.specs.declared.typed.operator.Conversion.TheVariants as conversion
 use Rattle.c_tree.specs.declared.typed.operator.Unary.TheVariants as unary
 use Rattle.c_tree.specs.declared.typed.expression.TExpr.{TExpr}
 use Rattle.c_tree.specs.declared.typed.expression.TExpr.TheVariants as x
@@ -140,34 +141,19 @@ only_arrays [] = true
 only_arrays (derived.Array n ∷ ds) = only_arrays ds
 only_arrays (d ∷ ds) = false
 
--- whether a member is `const`, or has a member or an element that is
-abbrev pub is_fixed_by : (Base → Bool) → CType → Bool
-is_fixed_by inner t = is_constant t || (only_arrays (out-CType t).derived && inner (out-CType t).base)
+-- of each structure it is known whether a member of it is `const`, or has a member or an element that is
+abbrev pub is_fixed_base : (fixed : List Bool) → Base → Bool
+is_fixed_base fixed (base.Struct n) = unwrap_or (slice_get fixed n) false
+is_fixed_base fixed b = false
 
-abbrev pub is_fixed_layout : (Base → Bool) → Option StructLayout → Bool
-is_fixed_layout inner None = false
-is_fixed_layout inner (Some l) = list_any (λ m. is_fixed_by inner m.ctype) l.members
+abbrev pub is_read_only : (fixed : List Bool) → CType → Bool
+is_read_only fixed t = is_constant t || (only_arrays (out-CType t).derived && is_fixed_base fixed (out-CType t).base)
 
--- the same of a structure type, in which others nest no deeper than there are structures
-abbrev pub is_fixed_base : (depth : ℕ) → Structs → Base → Bool
-is_fixed_base zero structs b = false
-is_fixed_base (suc depth) structs (base.Struct n) = is_fixed_layout (is_fixed_base depth structs) (layout_of structs n)
-is_fixed_base (suc depth) structs b = false
-
-abbrev pub is_read_only : Structs → CType → Bool
-is_read_only structs t = is_fixed_by (is_fixed_base (length structs + 1) structs) t
-
--- the left of an assignment: an lvalue and no array, and not const
+-- the left of an assignment, or the operand of `++` or `--`: an lvalue and no array, which would decay, and not const
 abbrev pub target_row : Pos → Operand → Walk Operand
 target_row at o =
     unless (not (is_lvalue o) || is_array o.ctype) kind.NotLvalue at
-    (here (λ c s. unless (is_read_only s.structs o.ctype) kind.ConstWrite at (give o)))
-
--- the same of `++` and `--`
-abbrev pub changing_row : Pos → Operand → Walk Operand
-changing_row at o =
-    unless (not (is_lvalue o)) kind.NotLvalue at
-    (here (λ c s. unless (is_read_only s.structs o.ctype) kind.ConstWrite at (give o)))
+    (here (λ c s. unless (is_read_only s.fixed o.ctype) kind.ConstWrite at (give o)))
 
 -- ---- `++` and `--` (6.5.2.4, 6.5.3.1)
 
@@ -191,7 +177,7 @@ contained_row structs (Some q) l r = binary structs q l r
 contained_row structs None l r = Wrong kind.Mismatch
 
 abbrev pub increment_row : Mark → Given → Operand → Walk Operand
-increment_row m g o = changing_row m.place o >>= λ left. asked left (λ o.
+increment_row m g o = target_row m.place o >>= λ left. asked left (λ o.
     here (λ c s. increment_by m.place g o (contained_row s.structs (contained m.punct) (valued o) (number int 1))))
 
 -- ---- casts (6.5.4)
@@ -200,10 +186,15 @@ abbrev pub casts : CType → Operand → Bool
 casts t o =
     (is_integer t && is_integer o.ctype) || ((is_pointer t && (is_pointer o.ctype || is_null_constant o)) || (is_bool t && is_pointer o.ctype))
 
+-- the value of a cast: a pointer that is cast to a pointer is no null pointer constant, which is cast once (6.3.2.3p3)
+abbrev pub cast_to : CType → Operand → Operand
+cast_to t o =
+    if is_pointer t && is_pointer o.ctype then then_unary Value t (unary.Convert conversion.Pointer) o else converted t o
+
 abbrev pub cast_row : Pos → CType → Operand → Walk Operand
 cast_row at t o =
     if is_void t then give (dropping o)
-    else unless (not (casts t (valued o))) kind.Mismatch at (give (converted (unqualified t) (valued o)))
+    else unless (not (casts t (valued o))) kind.Mismatch at (give (cast_to (unqualified t) (valued o)))
 
 -- ---- binary operators (6.5.5 to 6.5.14)
 

@@ -16,7 +16,7 @@ use Rattle.c_typing.specs.Scopes.{Walk, give, ◌>>=◌, asked, beside, here}
 use Rattle.c_typing.specs.Operands.{Operand}
 use Rattle.c_typing.specs.Declarators.{Expressed}
 pub use Rattle.c_typing.specs.declared.initialiser.Leaf.{Leaf}
-pub use Rattle.c_typing.specs.declared.initialiser.Leaf.TheVariants.{Given, Text, Wrong}
+pub use Rattle.c_typing.specs.declared.initialiser.Leaf.TheVariants.{Given, Text, Unfit, Wrong}
 pub use Rattle.c_typing.specs.declared.initialiser.Filled.{Filled}
 pub use Rattle.c_typing.specs.declared.initialiser.Frame.{Frame}
 pub use Rattle.c_typing.specs.declared.initialiser.Piece.{Piece}
@@ -35,6 +35,9 @@ filled ls = give (record { leaves = ls; count = 1 })
 abbrev pub wrong_at : Pos → Walk Filled
 wrong_at at = beside (fault kind.Mismatch at ∷ []) (filled (Wrong ∷ []))
 
+abbrev pub unfit_at : Pos → Operand → Walk Filled
+unfit_at at o = beside (fault kind.Mismatch at ∷ []) (filled (Unfit at o ∷ []))
+
 -- ---- one expression
 
 -- a string for an array of characters; the zero byte at its end may be left out (p14)
@@ -51,7 +54,7 @@ abbrev pub array_single : (offset : ℕ) → Expressed → Option (List ℕ) →
 array_single offset e None n t = e.typed >>= λ o. asked' o
   where
     asked' : Option Operand → Walk Filled
-    asked' (Some v) = wrong_at e.first
+    asked' (Some v) = unfit_at e.first v
     asked' None = filled (Wrong ∷ [])
 array_single offset e (Some bytes) n t = if is_character t then text_row offset e.first bytes n else wrong_at e.first
 

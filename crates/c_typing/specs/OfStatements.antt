@@ -1,4 +1,5 @@
 -- What typing makes of one node of a statement, from what it makes of the parts (C11 6.8).
+use Rattle.c_tree.specs.declared.typed.types.CType.{CType}
 use Rattle.std.specs.Prelude.{ℕ, ◌+◌, ◌==◌, Bool, true, false, ◌&&◌, not, if◌then◌else◌, List, [], ◌∷◌, ◌++◌, Option, Some, None, map}
 use Rattle.std.specs.List.{list_any}
 use Rattle.std.specs.Option.{option_map}
@@ -19,7 +20,7 @@ use Rattle.c_tree.specs.declared.typed.statement.Label.TheVariants as label
 use Rattle.c_tree.specs.declared.typed.statement.Objects.{Objects}
 use Rattle.c_tree.specs.declared.typed.unit.Object.{Object}
 use Rattle.c_typing.specs.Types.{is_integer, is_void, is_function}
-use Rattle.c_typing.specs.Scopes.{Meaning, TypedefOf, Local, State, Walk, give, unasked, tell, ◌>>=◌, asked, both_asked, unless, here, scoped, latest}
+use Rattle.c_typing.specs.Scopes.{Meaning, TypedefOf, Local, State, Walk, give, unasked, tell, ◌>>=◌, asked, both_asked, beside, fault_if, unless, here, scoped, latest}
 use Rattle.c_typing.specs.Operands.{Operand, tree_of, valued, dropping, converted}
 use Rattle.c_typing.specs.Operators.{promoted_type}
 use Rattle.c_typing.specs.Expressions.{truth_row, given_row}
@@ -255,12 +256,16 @@ break_row at = here (λ c s. unless (not c.may_break) kind.Stray at (give t.Brea
 abbrev pub continue_row : Pos → Walk TStmt
 continue_row at = here (λ c s. unless (not c.may_continue) kind.Stray at (give t.Continue))
 
+-- the value that a function gives; nothing is asked of it in a function of type void
+abbrev pub returned : Pos → (result : CType) → Option Operand → Walk TExpr
+returned at u o = asked o (λ o. if is_void u then unasked else given_row at u o)
+
 -- a function of type void gives no value, any other one gives one
 abbrev pub return_row : Pos → Option Expressed → Walk TStmt
 return_row at None = here (λ c s. unless (not (is_void c.result)) kind.Mismatch at (give (t.Return None)))
 return_row at (Some e) = here (λ c s.
-    e.typed >>= λ o. asked o (λ o. unless (is_void c.result) kind.Mismatch at (given_row at c.result o)) >>= λ v.
-    asked v (λ v. give (t.Return (Some v))))
+    beside (fault_if (is_void c.result) kind.Mismatch at)
+    (e.typed >>= λ o. returned at c.result o >>= λ v. asked v (λ v. give (t.Return (Some v)))))
 
 -- ---- one node
 

@@ -23,7 +23,7 @@ use Rattle.c_typing.specs.Conversions.{base_of_constant}
 use Rattle.c_typing.specs.Scopes.{Automatic, Walk, give, unasked, tell, offer, ◌>>=◌, asked, both_asked, beside, fault_if, unless, here, joined, in_row, scoped, declaring, own_meaning}
 use Rattle.c_typing.specs.Operands.{Operand, Value, tree_of, value, number, valued, dropping}
 use Rattle.c_typing.specs.Expressions.{Argument, name_row, string_row, size_row, indirection_row, address_row, promoted_row, negated, complemented, not_row, increment_row, cast_row, binary_row, truth_row, index_row, member_row, arrow_row, call_row, Chain, conditional_row, Assigned, assign_row}
-use Rattle.c_typing.specs.Declarators.{Expressed, Parameter, Part, Pointing, Arraying, Listing, Declaring, Suffixed, Storing, Qualifying, Wording, Naming, Using, Specified, Basis, TypeNamed, Enumerated, Members, count_row, declared_type, name_place, adjusted, complete_row, nowhere, first_token, specifiers_row, struct_tag_row, enum_tag_row, struct_row, one_member, all_members, plain_enumerator, valued_enumerator, enum_row}
+use Rattle.c_typing.specs.Declarators.{Expressed, Parameter, Part, Pointing, Arraying, Listing, array_part, function_part, Declaring, Suffixed, Storing, Qualifying, Wording, Naming, Using, Specified, Basis, TypeNamed, Enumerated, Members, count_row, declared_type, name_place, adjusted, complete_parameter, nowhere, first_token, specifiers_row, struct_tag_row, enum_tag_row, struct_row, one_member, all_members, plain_enumerator, valued_enumerator, enum_row}
 use Rattle.c_typing.specs.Parts.{Prefixing, Marking, Sizing, Casting, Prefixed, Suffixing, Indexing, Calling, Membering, Arrowing, Changing, Operating, Branching, Listed, DeclaratorSuffixParts, DirectParts, ExprParts, PrefixParts, SuffixParts, EnumeratorParts, SpecifierParts, DeclaratorParts, ParameterParts, BranchParts, NextParts, TypeNameParts, MemberParts, MemberDeclaratorParts}
 
 -- ---- expressions
@@ -258,13 +258,13 @@ parameters_row n [] = give []
 parameters_row n (q ∷ qs) = q n >>= λ a. parameters_row (n + 1) qs >>= λ rest. offer (joined a rest)
 
 abbrev pub listing : Bool → Walk (List Parameter) → Walk Part
-listing defining w = (if defining then w else in_prototype w) >>= λ ps. asked ps (λ ps. give (Listing ps))
+listing defining w = (if defining then w else in_prototype w) >>= λ ps. give (function_part ps)
 
 abbrev pub typed_declarator_suffix : DeclaratorSuffixParts → Suffixed
 typed_declarator_suffix (DeclaratorSuffix-F.Array from to) = record { makes = false; part = λ defining. give (Arraying None) }
 typed_declarator_suffix (DeclaratorSuffix-F.ArrayOf from size to) = record {
   makes = false;
-  part = λ defining. size.typed >>= λ o. asked o (count_row from size.first) >>= λ n. asked n (λ n. give (Arraying (Some n)));
+  part = λ defining. size.typed >>= λ o. asked o (count_row from size.first) >>= λ n. give (array_part n);
 }
 typed_declarator_suffix (DeclaratorSuffix-F.Empty from to) = record { makes = true; part = λ defining. give (Listing []) }
 typed_declarator_suffix (DeclaratorSuffix-F.Void from at to) = record { makes = true; part = λ defining. give (Listing []) }
@@ -290,7 +290,7 @@ parameter_named None n r t = give t
 abbrev pub parameter_type : Declaring → Pos → Option Basis → Walk CType
 parameter_type d at b =
     declared_type d false at (option_map basis_type b) >>= λ t.
-    asked t (λ t. complete_row (name_place d.name at) (adjusted (shape t) t))
+    asked t (λ t. complete_parameter (name_place d.name at) (adjusted (shape t) t))
 
 abbrev pub typed_parameter : ParameterParts → Listed
 typed_parameter q n =

@@ -13,7 +13,7 @@ use Rattle.c_tree.specs.declared.typed.expression.TExpr.TheVariants as x
 use Rattle.c_tree.specs.declared.typed.expression.Step.{Step}
 use Rattle.c_tree.specs.declared.typed.expression.Step.TheVariants as step
 use Rattle.c_layout.specs.Constants.{constant_after}
-use Rattle.c_typing.specs.Types.{void, plain, pointer_to, Shape, Basic, PointerTo, ArrayOf, shape, is_integer, is_void, is_bool_base, is_pointer, is_constant, unqualified, compatible}
+use Rattle.c_typing.specs.Types.{void, plain, pointer_to, Shape, Basic, PointerTo, ArrayOf, shape, is_integer, is_void, is_bool_base, is_pointer, is_qualified, unqualified, alike, compatible}
 use Rattle.c_typing.specs.Conversions.{width_of_base, scalar_of}
 pub use Rattle.c_typing.specs.declared.operand.Form.{Form}
 pub use Rattle.c_typing.specs.declared.operand.Form.TheVariants.{Value, Place, Named}
@@ -153,8 +153,7 @@ target_of t = target_of_shape (shape t)
 -- the same type but for qualifiers, or one of them void, and the left has at least the qualifiers of the right
 abbrev pub points_as : CType → CType → Bool
 points_as l r =
-    (compatible (unqualified l) (unqualified r) || (is_void (unqualified l) || is_void (unqualified r)))
-    && (is_constant l || not (is_constant r))
+    (alike l r || (is_void (unqualified l) || is_void (unqualified r))) && (is_qualified l || not (is_qualified r))
 
 abbrev pub pointer_takes : CType → Option CType → Bool
 pointer_takes l (Some r) = points_as l r

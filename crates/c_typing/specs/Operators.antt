@@ -16,7 +16,7 @@ use Rattle.c_tree.specs.declared.typed.operator.Arithmetic.{Arithmetic}
 use Rattle.c_tree.specs.declared.typed.operator.Arithmetic.TheVariants as arithmetic
 use Rattle.c_layout.specs.Tags.{Structs}
 use Rattle.c_layout.specs.Sizes.{size_of}
-use Rattle.c_typing.specs.Types.{in_word, int, void, plain, pointer_to, constant_if, is_integer, is_pointer, is_void, is_constant, unqualified, alike, composite}
+use Rattle.c_typing.specs.Types.{in_word, int, void, plain, pointer_to, constant_if, is_integer, is_pointer, is_void, is_qualified, unqualified, alike, composite}
 use Rattle.c_typing.specs.Conversions.{promoted, common, sign_of, is_signed}
 pub use Rattle.c_typing.specs.declared.operator.Plan.{Plan}
 pub use Rattle.c_typing.specs.declared.operator.Row.{Row}
@@ -193,7 +193,7 @@ contained o = None
 -- pointers that are compared by `==`: a null pointer constant gives way; one to void makes the other one to void, and else the
 -- whole points to the composite type; both sides' qualifiers stay
 abbrev pub chosen_target : CType → CType → CType
-chosen_target l r = constant_if (is_constant l || is_constant r) (if is_void (unqualified l) || is_void (unqualified r) then void else composite l r)
+chosen_target l r = constant_if (is_qualified l || is_qualified r) (if is_void (unqualified l) || is_void (unqualified r) then void else composite l r)
 
 abbrev pub chosen_pointers : Option CType → Option CType → Option CType
 chosen_pointers (Some l) (Some r) =

@@ -1,6 +1,7 @@
 -- What the parts of an initialiser come to: values for an automatic object, bytes and addresses for a static one (C11 6.6p7, p9,
 -- 6.7.9p4, p10, p11).
 use Rattle.std.specs.Prelude.{ℕ, zero, suc, ◌+◌, ◌*◌, ◌-◌, ◌/◌, ◌%◌, ◌^◌, ◌==◌, nat_lt, nat_le, Bool, true, false, ◌&&◌, ◌||◌, not, if◌then◌else◌, List, [], ◌∷◌, ◌++◌, Option, Some, None, length, slice_get, is_some, unwrap_or}
+use Rattle.std.specs.List.{list_all}
 use Rattle.std.specs.Option.{option_map, option_and_then}
 use Rattle.word_ops.specs.Access.{bytes_of}
 use Rattle.c_tree.specs.declared.token.Pos.{Pos}
@@ -17,7 +18,7 @@ use Rattle.c_tree.specs.declared.typed.operator.Primary.TheVariants as primary
 use Rattle.c_tree.specs.declared.typed.operator.Stride.{Stride}
 use Rattle.c_tree.specs.declared.typed.operator.Unary.{Unary}
 use Rattle.c_tree.specs.declared.typed.operator.Unary.TheVariants as unary
-use Rattle.c_tree.specs.declared.typed.expression.TExpr.{TExpr, end_of-TExpr, more_of-TExpr, Row_of-Step, end_of-Step, more_of-Step}
+use Rattle.c_tree.specs.declared.typed.expression.TExpr.{TExpr, end_of-TExpr, more_of-TExpr, Row_of-Step, end_of-Step, more_of-Step, items-the_row-Step}
 use Rattle.c_tree.specs.declared.typed.expression.TExpr.TheVariants as x
 use Rattle.c_tree.specs.declared.typed.expression.Step.{Step}
 use Rattle.c_tree.specs.declared.typed.expression.Step.TheVariants as step
@@ -29,12 +30,13 @@ use Rattle.c_tree.specs.declared.typed.unit.StaticPart.{StaticPart}
 use Rattle.c_tree.specs.declared.typed.unit.StaticPart.TheVariants as part
 use Rattle.c_layout.specs.Constants.{constant_of, constant_after}
 use Rattle.c_layout.specs.Sizes.{size_of}
-use Rattle.c_typing.specs.Types.{in_word, is_bool, is_pointer, is_array}
+use Rattle.c_typing.specs.Types.{in_word, is_bool, is_integer, is_pointer, is_array}
 use Rattle.c_typing.specs.Conversions.{scalar_of}
-use Rattle.c_typing.specs.Scopes.{Name, Around, State, Walk, give, unasked, tell, offer, ◌>>=◌, asked, both_asked, here, latest, joined}
-use Rattle.c_typing.specs.Operands.{Operand, is_null, tree_of, valued}
+use Rattle.c_typing.specs.Scopes.{Name, Around, State, Walk, give, unasked, tell, offer, ◌>>=◌, asked, both_asked, beside, unless, here, latest, joined}
+use Rattle.c_typing.specs.Faults.{fault}
+use Rattle.c_typing.specs.Operands.{Operand, is_null, is_lvalue, constant_in, tree_of, valued}
 use Rattle.c_typing.specs.Expressions.{given_row}
-use Rattle.c_typing.specs.OfInitialisers.{Leaf, Given, Text, Wrong}
+use Rattle.c_typing.specs.OfInitialisers.{Leaf, Given, Text, Unfit, Wrong}
 pub use Rattle.c_typing.specs.declared.initialiser.Address.{Address}
 
 -- ---- automatic objects
@@ -46,6 +48,7 @@ initial_if offset None e = None
 abbrev pub initial_row : Leaf → Walk Initial
 initial_row (Given offset t first o) = asked o (given_row first t) >>= λ e. asked e (λ e. offer (initial_if offset (scalar_of t) e))
 initial_row (Text offset bytes) = give (initial.Bytes offset bytes)
+initial_row (Unfit first o) = unasked
 initial_row Wrong = unasked
 
 abbrev pub initials_row : List Leaf → Walk (List Initial)
@@ -149,13 +152,38 @@ little_endian (suc k) n = n % 256 ∷ little_endian k (n / 256)
 abbrev pub number_parts : ℕ → Scalar → ℕ → List StaticPart
 number_parts offset k n = if n == 0 then [] else part.Bytes offset (little_endian (scalar_bytes k) n) ∷ []
 
+-- the same over a list of steps: what one step makes of an address, and what further ones do
+abbrev pub after_step : (ℕ → ℕ) → TExpr → (done : List Step) → Step → Option Address → Option Address
+after_step sizes e done (step.Unary u) a = option_and_then (unary_address sizes u) a
+after_step sizes e done (step.Binary f b) a = binary_address sizes f a (address_of sizes b) (constant_after e done) (constant_of b)
+
+abbrev pub after_steps : (ℕ → ℕ) → TExpr → (done steps : List Step) → Option Address → Option Address
+after_steps sizes e done [] a = a
+after_steps sizes e done (s ∷ steps) a = after_steps sizes e (done ++ s ∷ []) steps (after_step sizes e done s a)
+
+abbrev pub operand_address : (ℕ → ℕ) → Operand → Option Address
+operand_address sizes o = after_steps sizes o.base [] o.steps (address_of sizes o.base)
+
+-- ---- null pointers (6.3.2.3p3, p4): the constant, cast to other pointers or not
+
+abbrev pub is_pointer_cast : Step → Bool
+is_pointer_cast (step.Unary (unary.Convert conversion.Pointer)) = true
+is_pointer_cast s = false
+
+abbrev pub is_null_behind : TExpr → List Step → Bool
+is_null_behind a steps = is_null a && list_all is_pointer_cast steps
+
+abbrev pub is_null_pointer : TExpr → Bool
+is_null_pointer (x.Applied' t p (more_of-TExpr a end_of-TExpr) n steps) = is_null_behind a (items-the_row-Step _ steps)
+is_null_pointer e = is_null e
+
 abbrev pub address_parts : Pos → ℕ → Option Address → Walk (List StaticPart)
 address_parts first offset None = tell kind.NotConstant first
 address_parts first offset (Some a) = give (part.Address offset a.object a.offset ∷ [])
 
 abbrev pub pointer_parts : Pos → ℕ → TExpr → Walk (List StaticPart)
 pointer_parts first offset e =
-    if is_null e then give [] else here (λ c s. address_parts first offset (address_of (static_size c s) e))
+    if is_null_pointer e then give [] else here (λ c s. address_parts first offset (address_of (static_size c s) e))
 
 abbrev pub value_parts : Pos → ℕ → Option Scalar → TExpr → Option ℕ → Walk (List StaticPart)
 value_parts first offset (Some scalar.Pointer) e n = pointer_parts first offset e
@@ -169,7 +197,7 @@ truth_parts first offset (Some a) = give (part.Bytes offset (1 ∷ []) ∷ [])
 
 abbrev pub pointer_truth : Pos → ℕ → TExpr → Walk (List StaticPart)
 pointer_truth first offset e =
-    if is_null e then give [] else here (λ c s. truth_parts first offset (address_of (static_size c s) e))
+    if is_null_pointer e then give [] else here (λ c s. truth_parts first offset (address_of (static_size c s) e))
 
 abbrev pub text_parts : ℕ → List ℕ → List StaticPart
 text_parts offset [] = []
@@ -179,14 +207,38 @@ text_parts offset (b ∷ bs) = part.Bytes offset (b ∷ bs) ∷ []
 abbrev pub points : Operand → Bool
 points o = is_pointer o.ctype || is_array o.ctype
 
-abbrev pub given_start : Pos → ℕ → CType → Operand → Walk (List StaticPart)
-given_start first offset t o =
+-- a pointer that is not read from an object, or an array
+abbrev pub points_at_once : Operand → Bool
+points_at_once o = is_array o.ctype || (is_pointer o.ctype && not (is_lvalue o))
+
+-- what may begin a static object: an integer or a null pointer that is constant, or the address of a static object, with a constant
+-- added or not (6.6p7, p9)
+abbrev pub is_constant_start : Around → State → Operand → Bool
+is_constant_start c s o =
+    (is_integer o.ctype && (not (is_lvalue o) && is_some (constant_in o)))
+    || (points_at_once o && (is_null_behind o.base o.steps || is_some (operand_address (static_size c s) o)))
+
+-- an expression that is not constant is no initialiser of a static object, whatever its type is (6.7.9p4)
+abbrev pub not_constant : Pos → CType → Operand → Walk (List StaticPart)
+not_constant first t o = beside (fault kind.NotConstant first ∷ []) (given_row first t o >>= λ e. unasked)
+
+abbrev pub constant_start : Pos → ℕ → CType → Operand → Walk (List StaticPart)
+constant_start first offset t o =
     if is_bool t && points o then pointer_truth first offset (tree_of (valued o))
     else (given_row first t o >>= λ e. asked e (λ e. value_parts first offset (scalar_of t) e (constant_of e)))
+
+abbrev pub given_start : Pos → ℕ → CType → Operand → Walk (List StaticPart)
+given_start first offset t o =
+    here (λ c s. if is_constant_start c s o then constant_start first offset t o else not_constant first t o)
+
+-- an expression of which a fault was told already
+abbrev pub unfit_start : Pos → Operand → Walk (List StaticPart)
+unfit_start first o = here (λ c s. unless (not (is_constant_start c s o)) kind.NotConstant first unasked)
 
 abbrev pub start_row : Leaf → Walk (List StaticPart)
 start_row (Given offset t first o) = asked o (given_start first offset t)
 start_row (Text offset bytes) = give (text_parts offset bytes)
+start_row (Unfit first o) = unfit_start first o
 start_row Wrong = unasked
 
 abbrev pub starts_row : List Leaf → Walk (List StaticPart)

@@ -157,42 +157,89 @@ with_constant k t =
 abbrev pub unqualified : CType → CType
 unqualified t = with_constant false t
 
+-- the outermost derivations without the qualifier of the type itself, and whether the base type has it: an array has no qualifier
+-- of its own, whatever its elements have (p9)
+abbrev pub bare_by : (base_has : Bool) → (outermost_first : List Derived) → Bool × List Derived
+bare_by c [] = (false, [])
+bare_by c (derived.Pointer old ∷ ds) = (c, derived.Pointer false ∷ ds)
+bare_by c (d ∷ ds) = (c, d ∷ ds)
+
+-- the unqualified version of a type (6.2.5p26)
+abbrev pub bare : CType → CType
+bare t = let q = bare_by (out-CType t).constant (reverse (out-CType t).derived) in made (out-CType t).base q.0 (reverse q.1)
+
+-- whether a type is itself `const`
+abbrev pub is_qualified_shape : (base_has : Bool) → Shape → Bool
+is_qualified_shape c (Basic b) = c
+is_qualified_shape c (PointerTo k t) = k
+is_qualified_shape c s = false
+
+abbrev pub is_qualified : CType → Bool
+is_qualified t = is_qualified_shape (out-CType t).constant (shape t)
+
 -- a type that is also `const`
 abbrev pub constant_if : Bool → CType → CType
 constant_if k t = if k then with_constant true t else t
 
 -- ---- compatible types (C11 6.2.7, 6.7.3p10, 6.7.6)
 
--- an enumerated type is compatible with int (6.7.2.2p4)
-abbrev pub base_number : Base → ℕ
-base_number base.Void = 0
-base_number base.Bool = 1
-base_number base.Char = 2
-base_number base.SignedChar = 3
-base_number base.UnsignedChar = 4
-base_number base.Short = 5
-base_number base.UnsignedShort = 6
-base_number base.Int = 7
-base_number base.Unsigned = 8
-base_number base.Long = 9
-base_number base.UnsignedLong = 10
-base_number (base.Enum n) = 7
-base_number (base.Struct n) = 11 + n
+-- a base type as a number of its kind and that of its tag
+abbrev pub kind_number : Base → ℕ
+kind_number base.Void = 0
+kind_number base.Bool = 1
+kind_number base.Char = 2
+kind_number base.SignedChar = 3
+kind_number base.UnsignedChar = 4
+kind_number base.Short = 5
+kind_number base.UnsignedShort = 6
+kind_number base.Int = 7
+kind_number base.Unsigned = 8
+kind_number base.Long = 9
+kind_number base.UnsignedLong = 10
+kind_number (base.Enum n) = 11
+kind_number (base.Struct n) = 12
 
--- how the numbers of elements of two arrays are compared
-abbrev pub Counts : Type 0
-Counts = Option ℕ → Option ℕ → Bool
+abbrev pub tag_number : Base → ℕ
+tag_number (base.Enum n) = n
+tag_number (base.Struct n) = n
+tag_number b = 0
+
+abbrev pub is_same_base : Base → Base → Bool
+is_same_base b d = (kind_number b == kind_number d) && (tag_number b == tag_number d)
+
+abbrev pub is_enum_base : Base → Bool
+is_enum_base (base.Enum n) = true
+is_enum_base b = false
+
+abbrev pub is_int_base : Base → Bool
+is_int_base base.Int = true
+is_int_base b = false
+
+-- an enumerated type is compatible with int, and not with another enumerated type (6.7.2.2p4)
+abbrev pub is_compatible_base : Base → Base → Bool
+is_compatible_base b d = is_same_base b d || ((is_enum_base b && is_int_base d) || (is_int_base b && is_enum_base d))
+
+-- how two types are compared: by their base types, and by the numbers of elements of two arrays
+pub record Comparison : Type 0 where
+  pub bases : Base → Base → Bool
+  pub counts : Option ℕ → Option ℕ → Bool
 
 -- arrays of which one has no number of elements may be compatible (6.7.6.2p6)
-abbrev pub may_be_equal : Counts
+abbrev pub may_be_equal : Option ℕ → Option ℕ → Bool
 may_be_equal (Some m) (Some n) = m == n
 may_be_equal _ _ = true
 
 -- arrays of the same type have the same number of elements, or none
-abbrev pub are_equal : Counts
+abbrev pub are_equal : Option ℕ → Option ℕ → Bool
 are_equal (Some m) (Some n) = m == n
 are_equal None None = true
 are_equal _ _ = false
+
+abbrev pub by_compatibility : Comparison
+by_compatibility = record { bases = is_compatible_base; counts = may_be_equal }
+
+abbrev pub by_identity : Comparison
+by_identity = record { bases = is_same_base; counts = are_equal }
 
 abbrev pub same_truth : Bool → Bool → Bool
 same_truth true b = b
@@ -200,47 +247,47 @@ same_truth false b = not b
 
 abbrev mutual
   -- a derivation against another one
-  pub same_derived : Counts → Derived → Derived → Bool
-  same_derived counts (derived.Pointer c) (derived.Pointer k) = same_truth c k
-  same_derived counts (derived.Array m) (derived.Array n) = counts m n
-  same_derived counts (derived.Function' m ps) (derived.Function' n qs) = same_types counts ps qs
-  same_derived counts _ _ = false
+  pub same_derived : Comparison → Derived → Derived → Bool
+  same_derived by (derived.Pointer c) (derived.Pointer k) = same_truth c k
+  same_derived by (derived.Array m) (derived.Array n) = by.counts m n
+  same_derived by (derived.Function' m ps) (derived.Function' n qs) = same_types by ps qs
+  same_derived by _ _ = false
 
   -- the derivations of a type against those of another one
-  pub same_derivations : Counts → {m n : _} → Row_of-Derived m → Row_of-Derived n → Bool
-  same_derivations counts end_of-Derived end_of-Derived = true
-  same_derivations counts (more_of-Derived d ds) (more_of-Derived e es) = same_derived counts d e && same_derivations counts ds es
-  same_derivations counts _ _ = false
+  pub same_derivations : Comparison → {m n : _} → Row_of-Derived m → Row_of-Derived n → Bool
+  same_derivations by end_of-Derived end_of-Derived = true
+  same_derivations by (more_of-Derived d ds) (more_of-Derived e es) = same_derived by d e && same_derivations by ds es
+  same_derivations by _ _ = false
 
   -- the types of parameters against those of others (6.7.6.3p15)
-  pub same_types : Counts → {m n : _} → Row_of-CType m → Row_of-CType n → Bool
-  same_types counts end_of-CType end_of-CType = true
-  same_types counts (more_of-CType b c m ds ts) (more_of-CType d k n es us) =
-      ((base_number b == base_number d) && same_truth c k) && (same_derivations counts ds es && same_types counts ts us)
-  same_types counts _ _ = false
+  pub same_types : Comparison → {m n : _} → Row_of-CType m → Row_of-CType n → Bool
+  same_types by end_of-CType end_of-CType = true
+  same_types by (more_of-CType b c m ds ts) (more_of-CType d k n es us) =
+      (by.bases b d && same_truth c k) && (same_derivations by ds es && same_types by ts us)
+  same_types by _ _ = false
 
 -- the same of lists of derivations
-abbrev pub all_same : Counts → List Derived → List Derived → Bool
-all_same counts [] [] = true
-all_same counts (d ∷ ds) (e ∷ es) = same_derived counts d e && all_same counts ds es
-all_same counts _ _ = false
+abbrev pub all_same : Comparison → List Derived → List Derived → Bool
+all_same by [] [] = true
+all_same by (d ∷ ds) (e ∷ es) = same_derived by d e && all_same by ds es
+all_same by _ _ = false
 
-abbrev pub agree : Counts → CType → CType → Bool
-agree counts t u =
-    ((base_number (out-CType t).base == base_number (out-CType u).base) && same_truth (out-CType t).constant (out-CType u).constant)
-    && all_same counts (out-CType t).derived (out-CType u).derived
+abbrev pub agree : Comparison → CType → CType → Bool
+agree by t u =
+    (by.bases (out-CType t).base (out-CType u).base && same_truth (out-CType t).constant (out-CType u).constant)
+    && all_same by (out-CType t).derived (out-CType u).derived
 
 -- whether two types are compatible
 abbrev pub compatible : CType → CType → Bool
-compatible t u = agree may_be_equal t u
+compatible t u = agree by_compatibility t u
 
--- whether two types are the same, an enumerated type counting as int
+-- whether two types are the same
 abbrev pub same_type : CType → CType → Bool
-same_type t u = agree are_equal t u
+same_type t u = agree by_identity t u
 
 -- the same but for the qualifiers of the types themselves
 abbrev pub alike : CType → CType → Bool
-alike t u = compatible (unqualified t) (unqualified u)
+alike t u = compatible (bare t) (bare u)
 
 -- the type of two compatible ones: an array has the number of elements that either tells (6.2.7p3)
 abbrev pub composite_derived : Derived → Derived → Derived

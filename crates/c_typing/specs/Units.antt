@@ -214,6 +214,7 @@ nothing_found = record {
   names = [];
   tags = [];
   structs = [];
+  fixed = [];
   enums = 0;
   linked = [];
   starts = [];

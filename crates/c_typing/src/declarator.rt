@@ -22,8 +22,12 @@ pub enum Part {
     Pointing(bool),
     /// an array, with the number of elements where that is told
     Arraying(Option<u64>),
+    /// an array in whose number of elements a fault stands
+    SomeArray,
     /// a function of these parameters
     Listing(Items<Parameter>),
+    /// a function in whose parameters a fault stands
+    SomeFunction,
 }
 
 /// Specifiers as a whole (C11 6.7).

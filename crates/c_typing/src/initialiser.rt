@@ -19,6 +19,8 @@ pub enum Leaf {
     },
     /// bytes of a string, so many bytes from the start of the whole
     Text(u32, Text),
+    /// an expression that does not fit, of which a fault is told: its first token, and what it is
+    Unfit(Pos, Operand),
     /// nothing that is right
     Wrong,
 }

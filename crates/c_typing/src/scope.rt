@@ -36,8 +36,8 @@ pub enum Meaning {
 pub enum Tag {
     /// the structure type of this number, and whether a list of its members has begun
     StructTag(u32, bool),
-    /// the enumerated type of this number
-    EnumTag(u32),
+    /// the enumerated type of this number, and whether the list of its enumerators has ended (C11 6.7.2.2p4)
+    EnumTag(u32, bool),
 }
 
 /// An automatic object that the present block declares (C11 6.2.4p5).
@@ -67,6 +67,8 @@ pub struct State {
     pub tags: ScopeMap<Text, Tag>,
     /// the structure types
     pub structs: Tags,
+    /// of each structure type whether a member of it is `const`, or has a member or an element that is (C11 6.3.2.1p1)
+    pub fixed: Items<bool>,
     /// how many enumerated types there are
     pub enums: u32,
     /// what has linkage, the oldest declaration first; the last one of a name has the type of all

@@ -1,6 +1,6 @@
 -- The rows of specifiers and declarators give something where they tell no fault.
-use Rattle.std.specs.Prelude.{◌≡◌, ℕ, ◌+◌, ◌%◌, ◌==◌, ◌^◌, nat_lt, nat_le, Bool, true, false, ◌&&◌, ◌||◌, not, List, [], ◌∷◌, Option, Some, None, length, if◌then◌else◌}
-use Rattle.std.specs.List.{AllByRecursion}
+use Rattle.std.specs.Prelude.{◌≡◌, ℕ, ◌+◌, ◌%◌, ◌==◌, ◌^◌, nat_lt, nat_le, Bool, true, false, ◌&&◌, ◌||◌, not, List, [], ◌∷◌, Option, Some, None, length, if◌then◌else◌, refl}
+use Rattle.std.specs.List.{AllByRecursion, list_all}
 use Rattle.std.specs.Option.{option_map}
 use Rattle.c_tree.specs.declared.token.Pos.{Pos}
 use Rattle.c_tree.specs.declared.expression.Identifier.{Identifier}
@@ -17,10 +17,10 @@ use Rattle.c_typing.specs.declared.scope.Tag.{Tag}
 use Rattle.c_typing.specs.declared.scope.Tag.TheVariants.{StructTag, EnumTag}
 use Rattle.c_typing.specs.declared.operand.Operand.{Operand}
 use Rattle.c_typing.specs.declared.declarator.Part.{Part}
-use Rattle.c_typing.specs.declared.declarator.Part.TheVariants.{Pointing, Arraying, Listing}
+use Rattle.c_typing.specs.declared.declarator.Part.TheVariants.{Pointing, Arraying, SomeArray, Listing, SomeFunction}
 use Rattle.c_typing.specs.declared.declarator.Basis.{Basis}
 use Rattle.c_typing.specs.Types.{plain}
-use Rattle.c_typing.specs.Scopes.{Walk, give, unasked, change, beside, asked, both_asked, ◌>>=◌, joined, latest}
+use Rattle.c_typing.specs.Scopes.{Walk, give, offer, unasked, change, beside, asked, both_asked, ◌>>=◌, joined, latest}
 use Rattle.c_typing.specs.Declarators as typing
 use Rattle.c_typing.specs.Declarators.{Expressed, Declaring, Specifying, Storing, Qualifying, Wording, Naming, Using, Specified, Enumerated, Members, Parts}
 use Rattle.c_typing_laws.specs.Scopes.{IfGiven, Answers, Any, gives, tells, offers, follows, asks, both, chain, pair, besides, passes, either, sees, changes, in_order, all_append, walks, IfMeant, latest_known}
@@ -35,9 +35,16 @@ mapped f None h = h
 abbrev pub Says : Expressed → Type 0
 Says e = Answers Any e.typed
 
+-- a derivation in which no fault stands
+abbrev pub IsSettled : Part → Type 0
+IsSettled d = typing.is_settled d ≡ true
+
+abbrev pub AreSettled : List Part → Type 0
+AreSettled ds = AllByRecursion IsSettled ds
+
 -- a declarator that gives its derivations
 abbrev pub Derives : Declaring → Type 0
-Derives d = (defining : Bool) → Answers Any (d.parts defining)
+Derives d = (defining : Bool) → Answers AreSettled (d.parts defining)
 
 -- an enumerator that gives its value, behind one that has a value
 abbrev pub Counts : Enumerated → Type 0
@@ -81,19 +88,37 @@ array_if at t (Some k) (Some n) = search walks
 derive_one : (at : Pos) (d : Part) (t : CType) → Answers Any (typing.derive_one at d t)
 derive_one at (Pointing c) t = search walks
 derive_one at (Arraying count) t = search (walks, array_if)
+derive_one at SomeArray t = search (walks, array_if)
 derive_one at (Listing ps) t = search walks
+derive_one at SomeFunction t = search walks
 
-pub derive : (at : Pos) (ds : List Part) (t : CType) → Answers Any (typing.derive at ds t)
-derive at [] t = search walks
-derive at (d ∷ ds) t = chain (derive_one at d t) (λ u h. derive at ds u)
+derive_all : (at : Pos) (ds : List Part) (t : CType) → Answers Any (typing.derive_all at ds t)
+derive_all at [] t = search walks
+derive_all at (d ∷ ds) t = chain (derive_one at d t) (λ u h. derive_all at ds u)
+
+all_settled : (ds : List Part) → AreSettled ds → list_all typing.is_settled ds ≡ true
+all_settled [] h = refl
+all_settled (d ∷ ds) h = rw (h.0, all_settled ds h.1) refl
+
+if_settled : (b : Bool) (u : Option CType) → b ≡ true → IfGiven Any u → Answers Any (if b then offer u else unasked)
+if_settled true u e g = offers u g
+if_settled false u e g = absurd cc
+
+pub derive : (at : Pos) (ds : List Part) (t : CType) → AreSettled ds → Answers Any (typing.derive at ds t)
+derive at ds t h =
+    follows (λ u. if list_all typing.is_settled ds then offer u else unasked) (derive_all at ds t)
+    (λ u g. if_settled (list_all typing.is_settled ds) u (all_settled ds h) g)
 
 pub declared_type : (d : Declaring) (defining : Bool) (at : Pos) (t : Option CType) → Derives d → IfGiven Any t → Answers Any (typing.declared_type d defining at t)
 declared_type d defining at t p h =
     follows (λ ds. both_asked ds t (typing.derive (typing.name_place d.name at))) (p defining)
-    (λ ds g. both ds t g h (λ ds t a b. derive (typing.name_place d.name at) ds t))
+    (λ ds g. both ds t g h (λ ds t a b. derive (typing.name_place d.name at) ds t a))
 
 pub complete_row : (at : Pos) (t : CType) → Answers Any (typing.complete_row at t)
 complete_row at t = search walks
+
+pub complete_parameter : (at : Pos) (t : CType) → Answers Any (typing.complete_parameter at t)
+complete_parameter at t = search (walks, besides)
 
 -- ---- specifiers
 
@@ -148,14 +173,15 @@ specifiers_row alone ss p = chain (read_specifiers alone typing.nothing ss tt p)
 
 struct_meant : (tag : Identifier) (o : Option Tag) → Answers Any (typing.struct_meant tag o)
 struct_meant tag (Some (StructTag n listed)) = search walks
-struct_meant tag (Some (EnumTag n)) = search walks
+struct_meant tag (Some (EnumTag n ended)) = search walks
 struct_meant tag None = search walks
 
 pub struct_tag_row : (tag : Identifier) (alone : Bool) → Answers Any (typing.struct_tag_row tag alone)
 struct_tag_row tag alone = search (walks, struct_meant)
 
 enum_meant : (tag : Identifier) (o : Option Tag) → Answers Any (typing.enum_meant tag o)
-enum_meant tag (Some (EnumTag n)) = search walks
+enum_meant tag (Some (EnumTag n true)) = search walks
+enum_meant tag (Some (EnumTag n false)) = search walks
 enum_meant tag (Some (StructTag n listed)) = search walks
 enum_meant tag None = search walks
 
@@ -171,7 +197,7 @@ begin_struct : (tag : Identifier) (o : Option Tag) → Answers Any (typing.begin
 begin_struct tag None = begin_new tag
 begin_struct tag (Some (StructTag n false)) = search walks
 begin_struct tag (Some (StructTag n true)) = search walks
-begin_struct tag (Some (EnumTag n)) = search walks
+begin_struct tag (Some (EnumTag n ended)) = search walks
 
 struct_begun : (tag : Option Identifier) → Answers Any (typing.struct_begun tag)
 struct_begun None = search walks
@@ -249,8 +275,12 @@ enum_tagged : (tag : Option Identifier) (n : ℕ) (w : Walk (Unit {0})) → Answ
 enum_tagged None n w p = p
 enum_tagged (Some tag) n w p = search (walks, besides, p)
 
+enum_ended : (tag : Option Identifier) (n : ℕ) → Answers Any (typing.enum_ended tag n)
+enum_ended None n = search walks
+enum_ended (Some tag) n = search walks
+
 pub enum_row : (tag : Option Identifier) (es : List Enumerated) → AllByRecursion Counts es → Answers Any (typing.enum_row tag es)
 enum_row tag es p =
-    sees (λ c s. change typing.add_enum (typing.enum_tagged tag s.enums (typing.enumerators_row (Some 0) es) >>= λ u. give (plain (base.Enum s.enums))))
+    sees (λ c s. change typing.add_enum (typing.enum_tagged tag s.enums (typing.enumerators_row (Some 0) es) >>= λ u. typing.enum_ended tag s.enums))
     (λ c s k. changes typing.add_enum (λ s k. k)
-    (follows (λ u. give (plain (base.Enum s.enums))) (enum_tagged tag s.enums (typing.enumerators_row (Some 0) es) (enumerators_row (Some 0) es tt p)) (λ u g. gives _ tt)))
+    (follows (λ u. typing.enum_ended tag s.enums) (enum_tagged tag s.enums (typing.enumerators_row (Some 0) es) (enumerators_row (Some 0) es tt p)) (λ u g. enum_ended tag s.enums)))

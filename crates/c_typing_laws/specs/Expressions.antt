@@ -91,9 +91,6 @@ not_row at o = search walks
 target_row : (at : Pos) (o : Operand) → Answers Any (typing.target_row at o)
 target_row at o = search walks
 
-changing_row : (at : Pos) (o : Operand) → Answers Any (typing.changing_row at o)
-changing_row at o = search walks
-
 increment_if : (at : Pos) (g : Given) (o : Operand) (k : Option Scalar) (plan : Plan) → Answers Any (typing.increment_if at g o k plan)
 increment_if at g o None plan = search walks
 increment_if at g o (Some k) plan = search walks
@@ -105,7 +102,7 @@ increment_by at g o Other = search walks
 
 pub increment_row : (m : Mark) (g : Given) (o : Operand) → Answers Any (typing.increment_row m g o)
 increment_row m g o =
-    chain (changing_row m.place o) (λ o h. sees (λ c s. typing.increment_by m.place g o (typing.contained_row s.structs (contained m.punct) (valued o) (number int 1)))
+    chain (target_row m.place o) (λ o h. sees (λ c s. typing.increment_by m.place g o (typing.contained_row s.structs (contained m.punct) (valued o) (number int 1)))
     (λ c s k. increment_by m.place g o (typing.contained_row s.structs (contained m.punct) (valued o) (number int 1))))
 
 pub cast_row : (at : Pos) (t : CType) (o : Operand) → Answers Any (typing.cast_row at t o)

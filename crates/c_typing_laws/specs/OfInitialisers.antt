@@ -8,14 +8,14 @@ use Rattle.c_tree.specs.declared.typed.types.CType.{CType}
 use Rattle.c_layout.specs.Tags.{Structs}
 use Rattle.c_typing.specs.declared.operand.Operand.{Operand}
 use Rattle.c_typing.specs.declared.initialiser.Leaf.{Leaf}
-use Rattle.c_typing.specs.declared.initialiser.Leaf.TheVariants.{Given, Text, Wrong}
+use Rattle.c_typing.specs.declared.initialiser.Leaf.TheVariants.{Unfit, Given, Text, Wrong}
 use Rattle.c_typing.specs.declared.initialiser.Filled.{Filled}
 use Rattle.c_typing.specs.declared.initialiser.Frame.{Frame}
 use Rattle.c_typing.specs.declared.initialiser.Piece.{Piece}
 use Rattle.c_typing.specs.declared.scope.State.{State}
 use Rattle.c_typing.specs.Faults.{fault}
 use Rattle.c_typing.specs.Types.{Shape, Basic, PointerTo, ArrayOf, FunctionOf, shape, basic, is_integer_base, is_pointer_shape, is_scalar, is_character}
-use Rattle.c_typing.specs.Scopes.{Around, Walk, ◌>>=◌}
+use Rattle.c_typing.specs.Scopes.{beside, Around, Walk, ◌>>=◌}
 use Rattle.c_typing.specs.Declarators.{Expressed}
 use Rattle.c_typing.specs.OfInitialisers as typing
 use Rattle.c_typing.specs.OfInitialisers.{Initialising, Placed, descend, greatest_depth}
@@ -28,6 +28,7 @@ use Rattle.c_typing_laws.specs.Declarators.{Says}
 abbrev pub IsRight : Leaf → Type 0
 IsRight (Given offset t first o) = IfGiven Any o
 IsRight (Text offset bytes) = Unit {0}
+IsRight (Unfit first o) = ⊥
 IsRight Wrong = ⊥
 
 -- the first part is an expression
@@ -63,7 +64,7 @@ text_row offset at bytes None = gives _ (tt, tt)
 text_row offset at bytes (Some n) = either (nat_le (length bytes) n) (λ e. gives _ (tt, tt)) (λ e. faulty (fault kind.Mismatch at))
 
 abbrev wrong_or : Expressed → Option Operand → Walk Filled
-wrong_or e (Some v) = typing.wrong_at e.first
+wrong_or e (Some v) = typing.unfit_at e.first v
 wrong_or e None = typing.filled (Wrong ∷ [])
 
 no_value : (e : Expressed) (o : Option Operand) → IfGiven Any o → Answers AreRight (wrong_or e o)

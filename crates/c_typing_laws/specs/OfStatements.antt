@@ -18,14 +18,14 @@ use Rattle.c_typing.specs.Faults.{fault}
 use Rattle.c_typing.specs.Types.{is_void}
 use Rattle.c_typing.specs.Operands.{tree_of}
 use Rattle.c_typing.specs.Expressions as rows
-use Rattle.c_typing.specs.Scopes.{Walk, give, tell, asked, both_asked, here, unless, scoped, ◌>>=◌}
+use Rattle.c_typing.specs.Scopes.{unasked, beside, fault_if, Walk, give, tell, asked, both_asked, here, unless, scoped, ◌>>=◌}
 use Rattle.c_typing.specs.Declarators.{Expressed}
 use Rattle.c_typing.specs.Declarators as parts
 use Rattle.c_typing.specs.Declarations.{Made, FunctionNames, Declared, automatic_count}
 use Rattle.c_typing.specs.Declarations as declaring
 use Rattle.c_typing.specs.OfStatements as typing
 use Rattle.c_typing.specs.OfStatements.{Stated, Itemised, Counted, States, Cases, Defaults, Blocked, Elsed, Heading, First, Controlling, Parting, function_names, count_items}
-use Rattle.c_typing_laws.specs.Scopes.{IfGiven, Answers, Any, gives, follows, asks, both, chain, pair, passes, sees, turns, scopes, walks}
+use Rattle.c_typing_laws.specs.Scopes.{besides, not_told, IfGiven, Answers, Any, gives, follows, asks, both, chain, pair, passes, sees, turns, scopes, walks}
 use Rattle.c_typing_laws.specs.Expressions.{truth_row, given_row}
 use Rattle.c_typing_laws.specs.Declarators.{Says, constant_row}
 use Rattle.c_typing_laws.specs.Declarations.{Declares, declaration_row}
@@ -278,12 +278,17 @@ break_row at = search walks
 pub continue_row : (at : Pos) → Answers Any (typing.continue_row at)
 continue_row at = search walks
 
-value_row : (at : Pos) (u : CType) (o : Operand) → Answers Any (unless (is_void u) kind.Mismatch at (rows.given_row at u o))
-value_row at u o = passes (is_void u) kind.Mismatch at (λ e. given_row at u o)
+value_row : (at : Pos) (u : CType) (o : Operand) (b : Bool) → b ≡ false → Answers Any (if b then unasked else rows.given_row at u o)
+value_row at u o true e = absurd cc
+value_row at u o false e = given_row at u o
+
+returned : (at : Pos) (u : CType) (o : Option Operand) → IfGiven Any o → is_void u ≡ false → Answers Any (typing.returned at u o)
+returned at u o g e = asks o g (λ o a. value_row at u o (is_void u) e)
 
 pub return_row : (at : Pos) (o : Option Expressed) → IfSays o → Answers Any (typing.return_row at o)
 return_row at None h = search walks
 return_row at (Some e) h =
-    sees (λ c s. e.typed >>= λ o. asked o (λ o. unless (is_void c.result) kind.Mismatch at (rows.given_row at c.result o)) >>= λ v. asked v (λ v. give (t.Return (Some v))))
-    (λ c s k. follows (λ o. asked o (λ o. unless (is_void c.result) kind.Mismatch at (rows.given_row at c.result o)) >>= λ v. asked v (λ v. give (t.Return (Some v)))) h
-    (λ o g. chain (asks o g (λ o a. value_row at c.result o)) (λ v h. gives (t.Return (Some v)) tt)))
+    sees (λ c s. beside (fault_if (is_void c.result) kind.Mismatch at) (e.typed >>= λ o. typing.returned at c.result o >>= λ v. asked v (λ v. give (t.Return (Some v)))))
+    (λ c s k. besides (fault_if (is_void c.result) kind.Mismatch at)
+    (λ n. follows (λ o. typing.returned at c.result o >>= λ v. asked v (λ v. give (t.Return (Some v)))) h
+    (λ o g. chain (returned at c.result o g (not_told (is_void c.result) kind.Mismatch at n)) (λ v h. gives (t.Return (Some v)) tt))))

@@ -1,5 +1,5 @@
 -- What typing makes of a node of an expression, a specifier or a declarator gives something where it tells no fault.
-use Rattle.std.specs.Prelude.{ℕ, ◌+◌, Bool, false, List, [], ◌∷◌, ◌++◌, Option, Some, None, map, reverse}
+use Rattle.std.specs.Prelude.{ℕ, ◌+◌, Bool, false, List, [], ◌∷◌, ◌++◌, Option, Some, None, map, reverse, refl}
 use Rattle.std.specs.List.{AllByRecursion}
 use Rattle.std.specs.Option.{option_map}
 use Rattle.c_tree.specs.declared.token.Pos.{Pos}
@@ -10,6 +10,7 @@ use Rattle.c_tree.specs.declared.expression.Mark.{Mark}
 use Rattle.c_tree.specs.declared.expression.Level.{Level}
 use Rattle.c_tree.specs.declared.expression.Level.TheVariants as level
 use Rattle.c_tree.specs.declared.refusal.FaultKind.TheVariants as kind
+use Rattle.c_tree.specs.declared.declarator.Pointer.{Pointer}
 use Rattle.c_tree.specs.declared.typed.types.CType.{CType}
 use Rattle.c_tree.specs.declared.typed.operator.Given.TheVariants as given
 use Rattle.c_tree.specs.declared.typed.expression.TExpr.{TExpr}
@@ -23,21 +24,22 @@ use Rattle.c_typing.specs.Types.{int, shape}
 use Rattle.c_typing.specs.Operands.{tree_of, value, valued, dropping}
 use Rattle.c_typing.specs.Scopes.{Walk, give, tell, offer, asked, both_asked, ◌>>=◌, joined, in_row}
 use Rattle.c_typing.specs.Declarators.{Expressed, Declaring, Suffixed, Specified, TypeNamed, Members, declared_type, name_place, adjusted, first_token}
+use Rattle.c_typing.specs.Declarators.{array_part as array_part_of, function_part as function_part_of}
 use Rattle.c_typing.specs.Parts.{Prefixing, Marking, Sizing, Casting, Prefixed, Suffixing, Indexing, Calling, Membering, Arrowing, Changing, Operating, Branching}
 use Rattle.c_typing.specs.Parts as parts
 use Rattle.c_typing.specs.Expressions as rows
 use Rattle.c_typing.specs.Expressions.{Argument, Chain, Assigned}
 use Rattle.c_typing.specs.OfTrees as typing
-use Rattle.c_typing_laws.specs.Scopes.{IfGiven, Answers, Any, gives, tells, offers, follows, asks, both, chain, pair, besides, either, joins, in_order, scopes, walks}
+use Rattle.c_typing_laws.specs.Scopes.{IfGiven, Answers, Any, gives, tells, offers, follows, asks, both, chain, pair, besides, either, joins, in_order, scopes, all_append, all_reversed, walks}
 use Rattle.c_typing_laws.specs.Expressions.{IsGivenArgument, size_row, indirection_row, address_row, promoted_row, not_row, increment_row, cast_row, binary_row, truth_row, index_row, member_row, arrow_row, call_row, conditional_row, assign_row}
-use Rattle.c_typing_laws.specs.Declarators.{Says, Derives, IsSpecific, AreMembers, mapped, count_row, complete_row, specifiers_row, one_member}
+use Rattle.c_typing_laws.specs.Declarators.{Says, IsSettled, AreSettled, Derives, IsSpecific, AreMembers, mapped, count_row, complete_parameter, specifiers_row, one_member}
 use Rattle.c_typing_laws.specs.Declarators as declarators
 
 -- ---- what the parts of a tree are
 
 -- a part behind a declarator's middle that gives its derivation
 abbrev pub Suffixes : Suffixed → Type 0
-Suffixes d = (defining : Bool) → Answers Any (d.part defining)
+Suffixes d = (defining : Bool) → Answers IsSettled (d.part defining)
 
 abbrev pub Prefixes : Prefixed → Type 0
 Prefixes q = Answers Any q.walk
@@ -214,15 +216,21 @@ member ss ds p q =
 
 -- ---- declarators
 
-suffixes_parts : (defining : Bool) (ss : List Suffixed) → AllByRecursion Suffixes ss → Answers (AllByRecursion Any) (typing.suffixes_parts defining ss)
+suffixes_parts : (defining : Bool) (ss : List Suffixed) → AllByRecursion Suffixes ss → Answers AreSettled (typing.suffixes_parts defining ss)
 suffixes_parts defining [] h = gives [] tt
 suffixes_parts defining (s ∷ ss) h =
     follows (λ a. typing.suffixes_parts false ss >>= λ rest. offer (joined a rest)) (h.0 defining)
-    (λ a g. follows (λ rest. offer (joined a rest)) (suffixes_parts false ss h.1) (λ rest k. offers (joined a rest) (joins Any a rest g k)))
+    (λ a g. follows (λ rest. offer (joined a rest)) (suffixes_parts false ss h.1) (λ rest k. offers (joined a rest) (joins IsSettled a rest g k)))
 
-pub declarator : (first : List Part) (inner : Walk (List Part)) (defining : Bool) (ss : List Suffixed) → Answers Any inner → AllByRecursion Suffixes ss
-    → Answers Any (inner >>= λ inner. typing.suffixes_parts defining ss >>= λ ss. both_asked inner ss (λ inner ss. give (first ++ (reverse ss ++ inner))))
-declarator first inner defining ss p h = pair p (suffixes_parts defining ss h) (λ inner ss a b. gives (first ++ (reverse ss ++ inner)) tt)
+pub pointing : (ps : List Pointer) → AreSettled (typing.pointing ps)
+pointing [] = tt
+pointing (q ∷ ps) = (refl, pointing ps)
+
+pub declarator : (first : List Part) (inner : Walk (List Part)) (defining : Bool) (ss : List Suffixed) → AreSettled first → Answers AreSettled inner
+    → AllByRecursion Suffixes ss → Answers AreSettled (inner >>= λ inner. typing.suffixes_parts defining ss >>= λ ss. both_asked inner ss (λ inner ss. give (first ++ (reverse ss ++ inner))))
+declarator first inner defining ss f p h =
+    pair p (suffixes_parts defining ss h)
+    (λ inner ss a b. gives (first ++ (reverse ss ++ inner)) (all_append IsSettled first (reverse ss ++ inner) f (all_append IsSettled (reverse ss) inner (all_reversed IsSettled ss b) a)))
 
 in_prototype : {A : Type 0} {P : A → Type 0} (w : Walk A) → Answers P w → Answers P (typing.in_prototype w)
 in_prototype w p = record { run = λ c s k h. let r = (scopes p).run (record c { at_file_level = false }) s k h in record { gives = r.gives; known = r.known } }
@@ -233,14 +241,23 @@ parameters_row n (q ∷ qs) h =
     follows (λ a. typing.parameters_row (n + 1) qs >>= λ rest. offer (joined a rest)) (h.0 n)
     (λ a g. follows (λ rest. offer (joined a rest)) (parameters_row (n + 1) qs h.1) (λ rest k. offers (joined a rest) (joins Any a rest g k)))
 
-pub listing : (defining : Bool) (qs : List parts.Listed) → AllByRecursion Listed qs → Answers Any (typing.listing defining (typing.parameters_row 0 qs))
-listing defining qs h =
-    chain (either defining (λ e. parameters_row 0 qs h) (λ e. in_prototype (typing.parameters_row 0 qs) (parameters_row 0 qs h))) (λ ps a. gives (Listing ps) tt)
+function_part : (ps : Option (List Parameter)) → IfGiven (AllByRecursion Any) ps → IsSettled (function_part_of ps)
+function_part (Some ps) h = refl
+function_part None h = absurd h
 
-pub array_of : (from : Pos) (e : Expressed) → Says e → Answers Any (e.typed >>= λ o. asked o (Rattle.c_typing.specs.Declarators.count_row from e.first) >>= λ n. asked n (λ n. give (Arraying (Some n))))
+pub listing : (defining : Bool) (qs : List parts.Listed) → AllByRecursion Listed qs → Answers IsSettled (typing.listing defining (typing.parameters_row 0 qs))
+listing defining qs h =
+    follows (λ ps. give (function_part_of ps)) (either defining (λ e. parameters_row 0 qs h) (λ e. in_prototype (typing.parameters_row 0 qs) (parameters_row 0 qs h)))
+    (λ ps a. gives (function_part_of ps) (function_part ps a))
+
+array_part : (n : Option ℕ) → IfGiven Any n → IsSettled (array_part_of n)
+array_part (Some n) h = refl
+array_part None h = absurd h
+
+pub array_of : (from : Pos) (e : Expressed) → Says e → Answers IsSettled (e.typed >>= λ o. asked o (Rattle.c_typing.specs.Declarators.count_row from e.first) >>= λ n. give (array_part_of n))
 array_of from e p =
-    follows (λ o. asked o (Rattle.c_typing.specs.Declarators.count_row from e.first) >>= λ n. asked n (λ n. give (Arraying (Some n)))) p
-    (λ o g. chain (asks o g (λ o a. count_row from e.first o)) (λ n a. gives (Arraying (Some n)) tt))
+    follows (λ o. asked o (Rattle.c_typing.specs.Declarators.count_row from e.first) >>= λ n. give (array_part_of n)) p
+    (λ o g. follows (λ n. give (array_part_of n)) (asks o g (λ o a. count_row from e.first o)) (λ n a. gives (array_part_of n) (array_part n a)))
 
 -- ---- parameters
 
@@ -257,7 +274,7 @@ parameter_named None n r t = search walks
 parameter_type : (d : Declaring) (at : Pos) (b : Option Basis) → Derives d → IfGiven Any b → Answers Any (typing.parameter_type d at b)
 parameter_type d at b p h =
     chain (declarators.declared_type d false at (option_map typing.basis_type b) p (mapped typing.basis_type b h))
-    (λ t a. complete_row (name_place d.name at) (adjusted (shape t) t))
+    (λ t a. complete_parameter (name_place d.name at) (adjusted (shape t) t))
 
 -- the parameter itself, behind its type
 abbrev pub last_of : Declaring → Pos → ℕ → Basis → CType → Walk Parameter

@@ -164,9 +164,12 @@ pub all_append : {A : Type 0} (P : A → Type 0) (xs ys : List A) → AllByRecur
 all_append P [] ys h g = g
 all_append P (x ∷ xs) ys h g = (h.0, all_append P xs ys h.1 g)
 
-all_reversed : {A : Type 0} (P : A → Type 0) (xs ys : List A) → AllByRecursion P xs → AllByRecursion P ys → AllByRecursion P (reverse_aux xs ys)
-all_reversed P [] ys h g = g
-all_reversed P (x ∷ xs) ys h g = all_reversed P xs (x ∷ ys) h.1 (h.0, g)
+all_reversed_onto : {A : Type 0} (P : A → Type 0) (xs ys : List A) → AllByRecursion P xs → AllByRecursion P ys → AllByRecursion P (reverse_aux xs ys)
+all_reversed_onto P [] ys h g = g
+all_reversed_onto P (x ∷ xs) ys h g = all_reversed_onto P xs (x ∷ ys) h.1 (h.0, g)
+
+pub all_reversed : {A : Type 0} (P : A → Type 0) (xs : List A) → AllByRecursion P xs → AllByRecursion P (reverse xs)
+all_reversed P xs h = all_reversed_onto P xs [] h tt
 
 -- ---- names
 
@@ -184,7 +187,7 @@ found test (x ∷ xs) h = by_test (test x) (found test xs h.1)
     by_test false rest = rest
 
 pub latest_known : (names : List (Name × Meaning)) (name : Name) → IsKnown names → IfMeant (latest names name)
-latest_known names name h = found (λ pair. bytes_eq pair.0 name) (reverse names) (all_reversed IsMeantPair names [] h tt)
+latest_known names name h = found (λ pair. bytes_eq pair.0 name) (reverse names) (all_reversed IsMeantPair names h)
 
 pub declares : {A : Type 0} {P : A → Type 0} {w : Walk A} (name : Name) (m : Meaning) → IsMeant m → Answers P w → Answers P (declaring name m w)
 declares name m g q = changes (λ s. record s { names = s.names ++ (name, m) ∷ [] }) (λ s k. all_append IsMeantPair s.names ((name, m) ∷ []) k (g, tt)) q

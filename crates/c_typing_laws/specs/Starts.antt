@@ -1,4 +1,5 @@
 -- What the parts of an initialiser come to, where no fault is told of them.
+use Rattle.c_typing.specs.Faults.{fault}
 use Rattle.std.specs.Prelude.{◌≡◌, ℕ, Bool, true, false, ◌&&◌, ◌||◌, not, if◌then◌else◌, List, [], ◌∷◌, ◌++◌, Option, Some, None, reverse, is_some, refl}
 use Rattle.std.proofs.Common.{ap, sym, ◌∙◌}
 use Rattle.std.proofs.lemmas.List.{reverse-append}
@@ -18,7 +19,7 @@ use Rattle.c_tree.specs.declared.typed.statement.Initialiser.TheVariants as init
 use Rattle.c_layout.specs.Constants.{constant_of}
 use Rattle.c_typing.specs.declared.operand.Operand.{Operand}
 use Rattle.c_typing.specs.declared.initialiser.Leaf.{Leaf}
-use Rattle.c_typing.specs.declared.initialiser.Leaf.TheVariants.{Given, Text, Wrong}
+use Rattle.c_typing.specs.declared.initialiser.Leaf.TheVariants.{Unfit, Given, Text, Wrong}
 use Rattle.c_typing.specs.declared.initialiser.Filled.{Filled}
 use Rattle.c_typing.specs.declared.initialiser.Address.{Address}
 use Rattle.c_typing.specs.Types.{shape_from, Shape, Basic, PointerTo, ArrayOf, FunctionOf, shape, basic, is_integer_base, is_pointer_shape, is_scalar, is_bool, derived_from}
@@ -28,7 +29,7 @@ use Rattle.c_typing.specs.Expressions as rows
 use Rattle.c_typing.specs.Scopes.{Walk, give, offer, asked, ◌>>=◌, joined}
 use Rattle.c_typing.specs.Starts as typing
 use Rattle.c_typing.specs.Declarations.{counted, counted_shape}
-use Rattle.c_typing_laws.specs.Scopes.{IsKnown, IfGiven, Answers, Any, gives, tells, offers, follows, asks, both, chain, pair, passes, either, sees, joins, walks}
+use Rattle.c_typing_laws.specs.Scopes.{faulty, IsKnown, IfGiven, Answers, Any, gives, tells, offers, follows, asks, both, chain, pair, passes, either, sees, joins, walks}
 use Rattle.c_typing_laws.specs.OfInitialisers.{IsRight, BeginsGiven, Fills}
 
 -- ---- scalar types
@@ -81,6 +82,7 @@ any_initial w p = Rattle.c_typing_laws.specs.Scopes.weaker (λ i g. tt) p
 initial_row : (l : Leaf) → IsRight l → Answers Any (typing.initial_row l)
 initial_row (Given offset t first o) g = any_initial (typing.initial_row (Given offset t first o)) (initial_value offset t first o g)
 initial_row (Text offset bytes) g = gives _ tt
+initial_row (Unfit first o) g = absurd g
 initial_row Wrong g = absurd g
 
 initials_row : (ls : List Leaf) → AllByRecursion IsRight ls → Answers (AllByRecursion Any) (typing.initials_row ls)
@@ -99,6 +101,7 @@ initials_begun (Given offset t first o ∷ ls) h b =
     follows (λ i. typing.initials_row ls >>= λ rest. offer (joined i rest)) (initial_value offset t first o h.0)
     (λ i g. follows (λ rest. offer (joined i rest)) (initials_row ls h.1) (λ rest k. offers (joined i rest) (joins_value i rest g k)))
 initials_begun (Text offset bytes ∷ ls) h b = absurd b
+initials_begun (Unfit first o ∷ ls) h b = absurd b
 initials_begun (Wrong ∷ ls) h b = absurd b
 initials_begun [] h b = absurd b
 
@@ -152,14 +155,20 @@ truth_parts first offset (Some a) = search walks
 pointer_truth : (first : Pos) (offset : ℕ) (e : TExpr) → Answers Any (typing.pointer_truth first offset e)
 pointer_truth first offset e = search (walks, truth_parts)
 
-given_start : (first : Pos) (offset : ℕ) (t : CType) (o : Operand) → Answers Any (typing.given_start first offset t o)
-given_start first offset t o =
+constant_start : (first : Pos) (offset : ℕ) (t : CType) (o : Operand) → Answers Any (typing.constant_start first offset t o)
+constant_start first offset t o =
     either (is_bool t && typing.points o) (λ b. pointer_truth first offset (tree_of (valued o)))
     (λ b. chain (given_row first t o) (λ e k. value_parts first offset (scalar_of t) e (constant_of e)))
+
+given_start : (first : Pos) (offset : ℕ) (t : CType) (o : Operand) → Answers Any (typing.given_start first offset t o)
+given_start first offset t o =
+    sees (λ c s. if typing.is_constant_start c s o then typing.constant_start first offset t o else typing.not_constant first t o)
+    (λ c s k. either (typing.is_constant_start c s o) (λ b. constant_start first offset t o) (λ b. faulty (fault kind.NotConstant first)))
 
 start_row : (l : Leaf) → IsRight l → Answers Any (typing.start_row l)
 start_row (Given offset t first o) g = asks o g (λ o a. given_start first offset t o)
 start_row (Text offset bytes) g = gives _ tt
+start_row (Unfit first o) g = absurd g
 start_row Wrong g = absurd g
 
 pub starts_row : (ls : List Leaf) → AllByRecursion IsRight ls → Answers Any (typing.starts_row ls)

@@ -1,5 +1,5 @@
 -- Every expression, specifier and declarator gives something where typing tells no fault of it.
-use Rattle.std.specs.Prelude.{◌≡◌, Bool, List, [], ◌∷◌, None, map, is_some, ◌&&◌, not}
+use Rattle.std.specs.Prelude.{refl, ◌≡◌, Bool, List, [], ◌∷◌, None, map, is_some, ◌&&◌, not}
 use Rattle.std.specs.List.{AllByRecursion}
 use Rattle.std.proofs.Common.{sym, subst}
 use Rattle.c_tree.specs.declared.declarator.DeclaratorSuffix.TheOpen.{DeclaratorSuffix-F, Direct-F, Expr-F, Prefix-F, Suffix-F, Enumerator-F, Specifier-F}
@@ -25,7 +25,7 @@ use Rattle.c_typing_laws.specs.Scopes.{gives, chain}
 use Rattle.c_typing_laws.specs.Expressions.{name_row, string_row, size_row}
 use Rattle.c_typing_laws.specs.Declarators.{Says, Derives, Counts, Specifies, IsSpecific, AreMembers, storing, qualifying, wording, naming, using}
 use Rattle.c_typing_laws.specs.Declarators as declarators
-use Rattle.c_typing_laws.specs.OfTrees.{Suffixes, Prefixes, Continues, Branches, Operates, NamesType, ListsMembers, Listed, all_of, prefixed, postfix_row, leveled, conditional, assigned, comma, operands, named_type, member, declarator, listing, array_of, parameter}
+use Rattle.c_typing_laws.specs.OfTrees.{Suffixes, Prefixes, Continues, Branches, Operates, NamesType, ListsMembers, Listed, all_of, prefixed, postfix_row, leveled, conditional, assigned, comma, operands, named_type, member, pointing, declarator, listing, array_of, parameter}
 use Rattle.c_typing_laws.specs.Known.{Steps, every_expr, every_specifier, every_declarator, DeclaratorSuffixOfKnown, bare_declarator_suffix, DirectOfKnown, bare_direct, ExprOfKnown, bare_expr, PrefixOfKnown, bare_prefix, SuffixOfKnown, bare_suffix, EnumeratorOfKnown, bare_enumerator, SpecifierOfKnown, bare_specifier, DeclaratorOfKnown, bare_declarator, ParameterOfKnown, bare_parameter, BranchOfKnown, bare_branch, NextOfKnown, bare_next, TypeNameOfKnown, bare_type_name, MemberOfKnown, bare_member, MemberDeclaratorOfKnown, bare_member_declarator}
 
 back : {A : Type 0} (P : A → Type 0) {typed step : A} → typed ≡ step → P step → P typed
@@ -125,7 +125,7 @@ of_declarator y =
     back Derives (declarator_typing-roll (bare_declarator y))
     (λ defining. let inside : Bool = is_some (direct_typing y.direct.0).makes in
     declarator (typing.pointing y.pointers) ((direct_typing y.direct.0).parts (inside && defining)) (not inside && defining)
-    (map declarator_suffix_typing (map (λ e. e.0) y.suffixes)) (y.direct.1 (inside && defining)) (all_of declarator_suffix_typing Suffixes y.suffixes))
+    (map declarator_suffix_typing (map (λ e. e.0) y.suffixes)) (pointing y.pointers) (y.direct.1 (inside && defining)) (all_of declarator_suffix_typing Suffixes y.suffixes))
 
 of_direct : (y : DirectOfKnown) → Derives (direct_typing (roll-Direct (bare_direct y)))
 of_direct Direct-F.Nothing = back Derives (direct_typing-roll Direct-F.Nothing) (λ defining. gives [] tt)
@@ -134,13 +134,13 @@ of_direct (Direct-F.Grouped from inner to) = back Derives (direct_typing-roll (D
 
 of_declarator_suffix : (y : DeclaratorSuffixOfKnown) → Suffixes (declarator_suffix_typing (roll-DeclaratorSuffix (bare_declarator_suffix y)))
 of_declarator_suffix (DeclaratorSuffix-F.Array from to) =
-    back Suffixes (declarator_suffix_typing-roll (DeclaratorSuffix-F.Array from to)) (λ defining. gives (Arraying None) tt)
+    back Suffixes (declarator_suffix_typing-roll (DeclaratorSuffix-F.Array from to)) (λ defining. gives (Arraying None) refl)
 of_declarator_suffix (DeclaratorSuffix-F.ArrayOf from size to) =
     back Suffixes (declarator_suffix_typing-roll (DeclaratorSuffix-F.ArrayOf from size.0 to)) (λ defining. array_of from (expr_typing size.0) size.1)
 of_declarator_suffix (DeclaratorSuffix-F.Empty from to) =
-    back Suffixes (declarator_suffix_typing-roll (DeclaratorSuffix-F.Empty from to)) (λ defining. gives (Listing []) tt)
+    back Suffixes (declarator_suffix_typing-roll (DeclaratorSuffix-F.Empty from to)) (λ defining. gives (Listing []) refl)
 of_declarator_suffix (DeclaratorSuffix-F.Void from at to) =
-    back Suffixes (declarator_suffix_typing-roll (DeclaratorSuffix-F.Void from at to)) (λ defining. gives (Listing []) tt)
+    back Suffixes (declarator_suffix_typing-roll (DeclaratorSuffix-F.Void from at to)) (λ defining. gives (Listing []) refl)
 of_declarator_suffix (DeclaratorSuffix-F.Parameters from all to) =
     back Suffixes (declarator_suffix_typing-roll (DeclaratorSuffix-F.Parameters from (map (λ e. e.0) all) to))
     (λ defining. listing defining (map parameter_typing (map (λ e. e.0) all)) (all_of parameter_typing Listed all))

@@ -42,7 +42,7 @@ pub record DefinesWell (d : Defined) : Type 0 where
 header : (at : Pos) (b : Option Basis) (d : Declaring) → IfGiven Any b → Derives d → Answers Any (typing.header at b d)
 header at b d g p =
     follows (λ ds. both_asked ds (option_map basis_type b) (derive at) >>= λ u. both_asked ds u (λ ds u. give (ds, u))) (p true)
-    (λ ds h. follows (λ u. both_asked ds u (λ ds u. give (ds, u))) (both ds (option_map basis_type b) h (mapped basis_type b g) (λ ds t a c. declarators.derive at ds t))
+    (λ ds h. follows (λ u. both_asked ds u (λ ds u. give (ds, u))) (both ds (option_map basis_type b) h (mapped basis_type b g) (λ ds t a c. declarators.derive at ds t a))
     (λ u k. both ds u h k (λ ds u a c. gives (ds, u) tt)))
 
 parameters_ready : {A : Type 0} {P : A → Type 0} {w : Walk A} (ps : List Parameter) → Answers P w → Answers P (typing.parameters_ready ps w)

@@ -104,6 +104,7 @@ with names = record {
   names = names;
   tags = [];
   structs = [];
+  fixed = [];
   enums = 0;
   linked = [];
   starts = [];

@@ -174,6 +174,6 @@ initialisers_typed = record {
   string_without_zero = refl;
   string_too_long = refl;
   counted = refl;
-  static_of_object = simp constants;
+  static_of_object = refl;
   static_of_number = simp constants;
 }

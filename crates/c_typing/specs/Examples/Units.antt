@@ -23,7 +23,7 @@ use Rattle.c_tree.specs.declared.declarator.DeclaratorSuffix.TheOpen.{Direct-F, 
 use Rattle.c_typing.specs.Faults.{fault}
 use Rattle.c_typing.specs.Types.{int, unsigned}
 use Rattle.c_typing.specs.Scopes.{Walk, Around, State}
-use Rattle.c_typing.specs.Declarators.{Expressed, Suffixed, Specified, Members}
+use Rattle.c_typing.specs.Declarators.{SomeArray, Expressed, Suffixed, Specified, Members}
 use Rattle.c_typing.specs.OfTrees.{typed_expr, typed_declarator, typed_direct, typed_specifier, typed_member, typed_member_declarator, typed_type_name, typed_declarator_suffix}
 use Rattle.c_typing.specs.OfInitialisers.{by_expression}
 use Rattle.c_typing.specs.Declarations.{Declared}
@@ -86,7 +86,7 @@ abbrev no_elements : ℕ → Suffixed
 no_elements n = typed_declarator_suffix (DeclaratorSuffix-F.ArrayOf (at n) (constant n 0) (at 0))
 
 abbrev bad_size_told : Pos → Suffixed
-bad_size_told p = record { makes = false; part = λ defining c s. record { faults = fault kind.BadSize p ∷ []; given = None; state = s } }
+bad_size_told p = record { makes = false; part = λ defining c s. record { faults = fault kind.BadSize p ∷ []; given = Some SomeArray; state = s } }
 
 no_elements-told : (n : ℕ) → no_elements n ≡ bad_size_told (at n)
 no_elements-told n = λ i. record { makes = false; part = λ defining c s. one c s i }

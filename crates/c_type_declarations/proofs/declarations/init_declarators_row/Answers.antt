@@ -15,10 +15,10 @@ loop-one-preserved c =
     let i = c.loop-one.one-index in
     let around = fixed c.args.around.now in
     let below : i < length list = omega arith in
-    let both_made : c.in_ok-made.made ≡ both c.loop-one.made c.in_ok-next.next = c.in_ok-made.ensures in
+    let both_made : c.in_ok-made.made ≡ both c.loop-one.made c.in-Ok.next = c.in_ok-made.ensures in
     let P : Option spec.Made → Type 0 = λ made.
     SoFar (spec.init_declarators_row c.args.first basis (map spec.beginning_of list)) (spec.init_declarators_row c.args.first basis (map spec.beginning_of (drop (i + 1) list)))
     around c.args.found.now c.init_declarator_row.new.found made in
     subst P (sym both_made) (further_each (spec.init_declarators_row c.args.first basis) (spec.init_declarator_row c.args.first basis) (λ d ds. refl)
     spec.beginning_of list i c.one-item.result below c.one-item.is around c.args.found.now c.loop-one.found c.init_declarator_row.new.found
-    c.loop-one.made c.in_ok-next.next c.loop-one.invariant c.in_ok-next.ensures)
+    c.loop-one.made c.in-Ok.next c.loop-one.invariant c.in-Ok.ensures)

@@ -1,4 +1,4 @@
--- `started` of src/automatic.rt: what the check leaves open of its proof.
+-- `started` of src/static_objects.rt: what the check leaves open of its proof.
 -- An object with an initialiser.
 use Rattle.c_typing.specs.Initialisers.{initialiser_typing}
 use Rattle.c_typing.specs.Declarations as spec
@@ -8,6 +8,6 @@ use Rattle.c_type_declarations.proofs.static_objects.started.Goals as goal
 pub returns : goal.returns
 returns c =
     started_as (spec.fillable_row c.args.name.now.place c.args.ctype) ((initialiser_typing c.args.start.now).fill 0) (λ v. spec.static_filled c.args.name.now v c.args.place.number c.args.place.index)
-    c.args.around.now c.args.found.now c.fillable_row.new.found c.fill.new.found c.static_filled.new.found
-    c.in-Some.ctype c.in_ok-copied.field-0 c.in-Some-2.filled c.in_ok-ctype.field-0 c.in_ok-filled.field-0 c.static_filled.result
-    c.in_ok-ctype.ensures c.in-Some.is c.in_ok-copied.ensures c.in_ok-filled.ensures c.in-Some-2.is c.static_filled.ensures
+    c.args.around.now c.args.found.now c.fillable_row.new.found c.filled_row.new.found c.static_filled.new.found
+    c.in-Some.ctype c.in-Some-filled.filled c.in_ok-ctype.field-0 c.in-Ok.filled c.static_filled.result
+    c.in_ok-ctype.ensures c.in-Some.is c.in-Ok.ensures c.in-Some-filled.is c.static_filled.ensures

@@ -18,22 +18,22 @@ pub returns-then-takes-clause-open : goal.returns-then-takes-clause-open
 returns-then-takes-clause-open c =
     ap (λ (r : List Frame × Piece). r.0) (sym (descend-here _ c.args.tags.now _ (stack c.loop-depth.frames) c.loop-depth.piece (sym c.takes.ensures ∙ c.if-takes.true)) ∙ c.loop-depth.invariant)
 
-pub returns-in_default-clause-piece : goal.returns-in_default-clause-piece
-returns-in_default-clause-piece c =
-    let none : part_by c.args.tags.now (shape c.loop-depth.piece.ctype) c.loop-depth.piece.offset 0 ≡ None = sym c.in_ok-first.ensures ∙ c.in_default.is in
+pub returns-in_default-part-clause-piece : goal.returns-in_default-part-clause-piece
+returns-in_default-part-clause-piece c =
+    let none : part_by c.args.tags.now (shape c.loop-depth.piece.ctype) c.loop-depth.piece.offset 0 ≡ None = sym c.in-Ok.ensures ∙ c.in_default-part.is in
     ap (λ (r : List Frame × Piece). r.1) (sym (descend-closed _ c.args.tags.now _ (stack c.loop-depth.frames) c.loop-depth.piece (sym c.takes.ensures ∙ c.if-takes.false) none) ∙ c.loop-depth.invariant)
 
-pub returns-in_default-clause-open : goal.returns-in_default-clause-open
-returns-in_default-clause-open c =
-    let none : part_by c.args.tags.now (shape c.loop-depth.piece.ctype) c.loop-depth.piece.offset 0 ≡ None = sym c.in_ok-first.ensures ∙ c.in_default.is in
+pub returns-in_default-part-clause-open : goal.returns-in_default-part-clause-open
+returns-in_default-part-clause-open c =
+    let none : part_by c.args.tags.now (shape c.loop-depth.piece.ctype) c.loop-depth.piece.offset 0 ≡ None = sym c.in-Ok.ensures ∙ c.in_default-part.is in
     ap (λ (r : List Frame × Piece). r.0) (sym (descend-closed _ c.args.tags.now _ (stack c.loop-depth.frames) c.loop-depth.piece (sym c.takes.ensures ∙ c.if-takes.false) none) ∙ c.loop-depth.invariant)
 
 pub loop-depth-preserved : goal.loop-depth-preserved
 loop-depth-preserved c =
     let less : greatest_depth - c.loop-depth._depth ≡ suc (greatest_depth - (c.loop-depth._depth + 1)) = omega arith in
-    let some : part_by c.args.tags.now (shape c.loop-depth.piece.ctype) c.loop-depth.piece.offset 0 ≡ Some c.in-Some.first = sym c.in_ok-first.ensures ∙ c.in-Some.is in
+    let some : part_by c.args.tags.now (shape c.loop-depth.piece.ctype) c.loop-depth.piece.offset 0 ≡ Some c.in-Some.first = sym c.in-Ok.ensures ∙ c.in-Some.is in
     let one = descend-further (greatest_depth - (c.loop-depth._depth + 1)) c.args.tags.now (takes_whole c.args.whole.is_string c.args.whole.is_structure) (stack c.loop-depth.frames) c.loop-depth.piece c.in-Some.first (sym c.takes.ensures ∙ c.if-takes.false) some in
-    rw (c.in_ok-push.ensures.ok, reverse-last) (sym one ∙ rw less at c.loop-depth.invariant)
+    rw (c.in-Ok-push.ensures.ok, reverse-last) (sym one ∙ rw less at c.loop-depth.invariant)
 
 pub returns-clause-piece : goal.returns-clause-piece
 returns-clause-piece c =

@@ -8,7 +8,7 @@ use Rattle.c_type_initialisers.proofs.expressions.expression_item.Goals as goal
 
 pub returns : goal.returns
 returns c =
-    value_item (expr_typing c.args.tree.now) c.first_token-first.result c.in_ok-literal.literal (stack c.args.frames.now) c.args.piece
-    c.args.around.now c.args.found.now c.expr.new.found c.expression_placed-2.new.found c.in_ok-value.value (placed c.expression_placed-2.result c.expression_placed-2.new.frames)
-    c.first_token-first.ensures c.in_ok-literal.ensures (sym (c.in_ok-is_string_for.ensures c.in_ok-literal.literal c.is_some.ensures) ∙ c.if-branch.false)
-    c.in_ok-value.ensures c.expression_placed-2.ensures
+    value_item (expr_typing c.args.tree.now) c.first_token-first.result c.in-Ok.literal (stack c.args.frames.now) c.args.piece
+    c.args.around.now c.args.found.now c.expr.new.found c.expression_placed-2.new.found c.in-Ok-expr.value (placed c.expression_placed-2.result c.expression_placed-2.new.frames)
+    c.first_token-first.ensures c.in-Ok.ensures (sym (c.in-Ok-is_string_for.ensures c.in-Ok.literal c.is_some.ensures) ∙ c.if-is_string.false)
+    c.in-Ok-expr.ensures c.expression_placed-2.ensures

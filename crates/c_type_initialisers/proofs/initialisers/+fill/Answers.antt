@@ -28,19 +28,19 @@ item_row-returns-in_ok-filled-in-List t c =
     c.in_ok-piece.ensures.piece c.in_ok-piece.ensures.open c.in-Some.is c.in-List.is
     (rw c.as_slice-items.ensures at c.in_ok-filled-in-List.ensures) c.leaves_of-in-List.ensures
 
-pub items_row-returns-in_default : goal.items_row-returns-in_default
-items_row-returns-in_default t c =
+pub items_row-returns-in_default-placed : goal.items_row-returns-in_default-placed
+items_row-returns-in_default-placed t c =
     let within : c.loop-item.item-index < length c.args.items.now = omega arith in
     items_nothing c.args.around.now c.args.found.now c.loop-item.found c.item_row.new.found c.args.list _ _ _ (stack c.loop-item.frames) c.item_row.new.frames
-    c.in_ok-placed.placed _ c.loop-item.leaves
-    (next_typed c.args.items.now c.loop-item.item-index c.item-item.result within c.item-item.is) c.in_default.is c.in_ok-placed.ensures c.loop-item.invariant
+    c.in-Ok.placed _ c.loop-item.leaves
+    (next_typed c.args.items.now c.loop-item.item-index c.item-item.result within c.item-item.is) c.in_default-placed.is c.in-Ok.ensures c.loop-item.invariant
 
 pub items_row-loop-item-preserved : goal.items_row-loop-item-preserved
 items_row-loop-item-preserved t c =
     let within : c.loop-item.item-index < length c.args.items.now = omega arith in
     items_turn c.args.around.now c.loop-item.found c.item_row.new.found c.args.list _ _ _ (stack c.loop-item.frames) c.item_row.new.frames
-    c.in_ok-placed.placed c.in-Some.more _ _ c.loop-item.leaves c.append.new.self
-    (next_typed c.args.items.now c.loop-item.item-index c.item-item.result within c.item-item.is) c.in-Some.is c.in_ok-append.ensures c.in_ok-placed.ensures c.loop-item.invariant
+    c.in-Ok.placed c.in-Some.more _ _ c.loop-item.leaves c.append.new.self
+    (next_typed c.args.items.now c.loop-item.item-index c.item-item.result within c.item-item.is) c.in-Some.is c.in-Ok-append.ensures c.in-Ok.ensures c.loop-item.invariant
 
 pub scalar_list-returns-then-is_empty : goal.scalar_list-returns-then-is_empty
 scalar_list-returns-then-is_empty t c =

@@ -6,5 +6,5 @@ use Rattle.c_type_initialisers.proofs.values.initials_row.Goals as goal
 pub loop-leaf-preserved : goal.loop-leaf-preserved
 loop-leaf-preserved c =
     initials_turn c.args.around.now c.loop-leaf.found c.initial_row.new.found c.in-Some.leaf c.loop-leaf.rest c.pop.new.self _ _
-    c.loop-leaf.initials c.in_ok-initials.initials c.in_ok-initial.initial
-    c.in-Some.ensures c.in_ok-initial.ensures c.in_ok-initials.ensures c.loop-leaf.invariant
+    c.loop-leaf.initials c.in-Ok-with_initial.longer c.in-Ok.initial
+    c.in-Some.ensures c.in-Ok.ensures c.in-Ok-with_initial.ensures c.loop-leaf.invariant

@@ -6,5 +6,5 @@ use Rattle.c_type_statements.proofs.blocks.count_declared.Goals as goal
 
 pub returns : goal.returns
 returns c =
-    let P : FunctionNames → Type 0 = λ names. IfOk c.automatic_count.result (λ n. n ≡ (automatic_count names (declared_of c.args.tree.now)).0) in
-    subst P c.new-names.ensures c.automatic_count.ensures.count
+    let P : FunctionNames → Type 0 = λ names. IfOk c.automatic_count-count.result (λ n. n ≡ (automatic_count names (declared_of c.args.tree.now)).0) in
+    subst P c.new-names.ensures c.automatic_count-count.ensures.count

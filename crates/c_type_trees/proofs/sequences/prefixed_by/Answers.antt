@@ -10,7 +10,7 @@ use Rattle.c_type_trees.proofs.sequences.prefixed_by.Goals as goal
 
 pub loop-prefix-preserved : goal.loop-prefix-preserved
 loop-prefix-preserved c =
-    c.loop-prefix.invariant ∙ prefix_popped _ _ _ _ _ c.args.around.now _ _ c.in-Some.ensures c.in_ok-value.ensures
+    c.loop-prefix.invariant ∙ prefix_popped _ _ _ _ _ c.args.around.now _ _ c.in-Some.ensures c.in-Ok.ensures
 
 pub returns : goal.returns
 returns c =

@@ -10,4 +10,4 @@ use Rattle.c_type_statements.proofs.walker.Walker.branch_row.Goals as goal
 pub returns : goal.returns
 returns g c =
     branch_walked (condition_row c.args.at (expr_typing c.args.condition.now)) (stmt_typing c.args.body.now) (fixed c.args.around.now) c.args.found.now
-    _ _ c.in_ok-condition.condition c.in_ok-body.body c.both_branches.result c.in_ok-condition.ensures c.in_ok-body.ensures c.both_branches.ensures
+    _ _ c.in_ok-condition.condition c.in-Ok.body c.both_branches.result c.in_ok-condition.ensures c.in-Ok.ensures c.both_branches.ensures

@@ -10,4 +10,4 @@ use Rattle.c_type_statements.proofs.walker.Walker.for_first.Goals as goal
 pub returns : goal.returns
 returns g c =
     first_walked c.args.at (controlling_of c.args.control.now) (stmt_typing c.args.body.now) (option_map expr_typing (option_copied c.args.first)) c.args.around.now c.in_scope-within.result c.args.found.now
-    _ _ _ _ _ _ c.in_scope-within.ensures c.in_ok-first.ensures c.in_ok-made.ensures c.in_ok-made-2.ensures c.close.ensures.faults c.close.ensures.state
+    _ _ _ _ _ _ c.in_scope-within.ensures c.in_ok-first.ensures c.in-Ok.ensures c.in_ok-made.ensures c.close.ensures.faults c.close.ensures.state

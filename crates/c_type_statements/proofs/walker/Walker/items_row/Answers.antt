@@ -15,7 +15,7 @@ loop-item-preserved g c =
     let i = c.loop-item.item-index in
     let around = fixed c.args.around.now in
     let below : i < length items = omega arith in
-    let both_made : c.in_ok-made.made ≡ both c.loop-item.made c.in_ok-next.next = c.in_ok-made.ensures in
+    let both_made : c.in_ok-made.made ≡ both c.loop-item.made c.in-Ok.next = c.in_ok-made.ensures in
     let P : Option Made → Type 0 = λ made. SoFar (spec.items_row (map block_item_typing items)) (spec.items_row (map block_item_typing (drop (i + 1) items))) around c.args.found.now c.item_row.new.found made in
     subst P (sym both_made) (further_each spec.items_row spec.item_row (λ d ds. refl) block_item_typing items i c.item-item.result below c.item-item.is
-    around c.args.found.now c.loop-item.found c.item_row.new.found c.loop-item.made c.in_ok-next.next c.loop-item.invariant c.in_ok-next.ensures)
+    around c.args.found.now c.loop-item.found c.item_row.new.found c.loop-item.made c.in-Ok.next c.loop-item.invariant c.in-Ok.ensures)

@@ -24,14 +24,14 @@ loop-one-init g c =
 pub returns-in_default : goal.returns-in_default
 returns-in_default g c =
     elses_last c.args.others.now c.loop-one.one-index c.one-item.result (fixed c.args.around.now) (fixed c.loop-one.within) c.args.found.now c.loop-one.found _ _
-    c.loop-one.branches c.loop-one.opened c.in_ok-last.last c.zip.result c.loop-one-test.true c.one-item.is c.in_default.is c.loop-one.invariant c.in_ok-last.ensures
+    c.loop-one.branches c.loop-one.opened c.in-Ok.last c.zip.result c.loop-one-test.true c.one-item.is c.in_default.is c.loop-one.invariant c.in-Ok.ensures
     c.close.ensures.faults c.close.ensures.state c.zip.ensures
 
 pub loop-one-preserved : goal.loop-one-preserved
 loop-one-preserved g c =
     elses_more c.args.others.now c.loop-one.one-index c.one-item.result c.in-Some.head (fixed c.args.around.now) (fixed c.loop-one.within) c.in_scope-within.result c.args.found.now c.loop-one.found _
-    c.loop-one.branches c.in_ok-branches.branches c.loop-one.opened c.open.new.self c.in_ok-branch.branch c.loop-one-test.true c.one-item.is c.in-Some.is
-    c.in_scope-within.ensures c.loop-one.invariant c.in_ok-branch.ensures c.open.ensures c.in_ok-branches.ensures
+    c.loop-one.branches c.in_ok-branches.branches c.loop-one.opened c.open.new.self c.in-Ok-branch_row.branch c.loop-one-test.true c.one-item.is c.in-Some.is
+    c.in_scope-within.ensures c.loop-one.invariant c.in-Ok-branch_row.ensures c.open.ensures c.in_ok-branches.ensures
 
 pub returns : goal.returns
 returns g c =

@@ -26,13 +26,13 @@ loop-item-preserved g c =
     let i = c.loop-item.item-index in
     let around = fixed c.args.around.now in
     let before = c.loop-item.good in
-    let fine = c.in_ok-fine.fine in
+    let fine = c.in-Ok.fine in
     let all : Walk (List Part) = spec.parts_row spec.no_parts true (map block_item_typing items) in
     let rest : Bool → Walk (List Part) = λ b. spec.parts_row (parting_of c.part_row.new.parting) b (map block_item_typing (drop (i + 1) items)) in
     let P : Bool → Type 0 = λ b. Left all (rest b) around c.args.found.now c.part_row.new.found in
     let below : i < length items = omega arith in
     let made : P (before && fine) = parts_further items i c.item-item.result below c.item-item.is all around c.args.found.now c.loop-item.found c.part_row.new.found
-    (parting_of c.loop-item.parting) (parting_of c.part_row.new.parting) before fine c.loop-item.invariant c.in_ok-fine.ensures in
+    (parting_of c.loop-item.parting) (parting_of c.part_row.new.parting) before fine c.loop-item.invariant c.in-Ok.ensures in
     let joined : c.if-good.good ≡ (before && fine) = elim c.if-good.branch [
       | then-good w ↦ w.good-is ∙ ap (λ (b : Bool). b && fine) (sym w.if-good.true)
       | else-good w ↦ w.good-is ∙ (w.if-good.false ∙ ap (λ (b : Bool). b && fine) (sym w.if-good.false))

@@ -13,7 +13,7 @@ returns g c =
     let w = spec.in_switch (spec.parts_row spec.no_parts true items) in
     let P : ℕ → Type 0 = λ n. Gave (spec.with_objects n w (fixed c.args.around.now) c.args.found.now.state) c.args.found.now c.close.new.self c.zip.result in
     subst P c.in_ok-count.ensures (paired (spec.with_objects c.in_ok-count.count w (fixed c.args.around.now) c.args.found.now.state) c.args.found.now c.close.new.self
-    c.in_ok-objects.objects c.in_ok-parts.parts c.zip.result c.zip.ensures
+    c.in-Ok-end_objects.objects c.in-Ok.parts c.zip.result c.zip.ensures
     (objects_walked c.in_ok-count.count w c.args.around.now c.in_scope-scope.result c.in_ok-outside.within c.args.found.now _ _ _ _ _ _ _ _
     c.in_scope-scope.ensures c.begin_objects.ensures.faults c.in_ok-outside.ensures.state c.in_ok-outside.ensures.outside.0 c.in_ok-outside.ensures.outside.1 c.in_ok-outside.ensures.within
-    c.in_ok-parts.ensures c.in_ok-objects.ensures.given c.end_objects.ensures.faults c.in_ok-objects.ensures.state c.close.ensures.faults c.close.ensures.state))
+    c.in-Ok.ensures c.in-Ok-end_objects.ensures.given c.end_objects.ensures.faults c.in-Ok-end_objects.ensures.state c.close.ensures.faults c.close.ensures.state))

@@ -9,4 +9,4 @@ use Rattle.c_type_statements.proofs.walker.Walker.switch_row.Goals as goal
 pub returns : goal.returns
 returns g c =
     switch_walked c.args.at (expr_typing c.args.condition.now) (map block_item_typing c.args.items.now) c.args.around.now c.in_scope-within.result c.args.found.now
-    _ _ _ _ _ _ c.in_scope-within.ensures c.in_ok-operand.ensures c.in_ok-body.ensures c.switch_of.ensures c.close.ensures.faults c.close.ensures.state
+    _ _ _ _ _ _ c.in_scope-within.ensures c.in_ok-operand.ensures c.in-Ok.ensures c.switch_of.ensures c.close.ensures.faults c.close.ensures.state

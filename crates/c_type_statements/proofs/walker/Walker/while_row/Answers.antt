@@ -8,4 +8,4 @@ use Rattle.c_type_statements.proofs.walker.Walker.while_row.Goals as goal
 pub returns : goal.returns
 returns g c =
     while_walked c.args.at (expr_typing c.args.condition.now) (stmt_typing c.args.body.now) c.args.around.now c.in_scope-within.result c.args.found.now _ _ _ _ _ c.while_of.result
-    c.in_scope-within.ensures c.in_ok-condition.ensures c.in_ok-body.ensures c.close.ensures.faults c.close.ensures.state c.while_of.ensures
+    c.in_scope-within.ensures c.in_ok-condition.ensures c.in-Ok.ensures c.close.ensures.faults c.close.ensures.state c.while_of.ensures

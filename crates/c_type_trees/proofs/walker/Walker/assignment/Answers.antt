@@ -19,7 +19,7 @@ loop-next-init g c =
 
 pub loop-next-preserved : goal.loop-next-preserved
 loop-next-preserved g c =
-    assignment_round c.args.rest.now c.loop-next.next-index c.next-item.result c.loop-next.last _ c.loop-next.left _ _ c.args.around.now _ _ c.loop-next-test.true c.next-item.is c.loop-next.invariant c.in_ok-value.ensures c.in_ok-push.ensures.ok
+    assignment_round c.args.rest.now c.loop-next.next-index c.next-item.result c.loop-next.last _ c.loop-next.left _ _ c.args.around.now _ _ c.loop-next-test.true c.next-item.is c.loop-next.invariant c.in-Ok-expr.ensures c.in-Ok.ensures.ok
 
 pub returns : goal.returns
 returns g c =

@@ -8,7 +8,7 @@ use Rattle.c_type_trees.proofs.walker.Walker.behind_all.Goals as goal
 
 pub loop-tree-preserved : goal.loop-tree-preserved
 loop-tree-preserved g c =
-    c.loop-tree.invariant ∙ behind_popped _ _ c.in-Some.tree _ _ c.args.around.now _ _ c.in-Some.ensures c.in_ok-value.ensures
+    c.loop-tree.invariant ∙ behind_popped _ _ c.in-Some.tree _ _ c.args.around.now _ _ c.in-Some.ensures c.in-Ok.ensures
 
 pub returns : goal.returns
 returns g c =

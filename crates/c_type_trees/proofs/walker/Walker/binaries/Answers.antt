@@ -10,7 +10,7 @@ use Rattle.c_type_trees.proofs.walker.Walker.binaries.Goals as goal
 
 pub loop-next-preserved : goal.loop-next-preserved
 loop-next-preserved g c =
-    binaries_round c.args.rest.now c.loop-next.next-index c.next-item.result c.loop-next.value _ _ _ c.args.around.now _ _ _ c.loop-next-test.true c.next-item.is c.loop-next.invariant c.in_ok-right.ensures c.in_ok-value.ensures
+    binaries_round c.args.rest.now c.loop-next.next-index c.next-item.result c.loop-next.value _ _ _ c.args.around.now _ _ _ c.loop-next-test.true c.next-item.is c.loop-next.invariant c.in-Ok.ensures c.in_ok-value.ensures
 
 pub returns : goal.returns
 returns g c =

@@ -16,7 +16,7 @@ loop-next-init g c =
 
 pub loop-next-preserved : goal.loop-next-preserved
 loop-next-preserved g c =
-    comma_round c.args.rest.now c.loop-next.next-index c.next-item.result c.loop-next.dropped _ c.loop-next.last _ _ c.args.around.now _ _ c.loop-next-test.true c.next-item.is c.loop-next.invariant c.in_ok-dropped.ensures c.in_ok-last.ensures
+    comma_round c.args.rest.now c.loop-next.next-index c.next-item.result c.loop-next.dropped _ c.loop-next.last _ _ c.args.around.now _ _ c.loop-next-test.true c.next-item.is c.loop-next.invariant c.in_ok-dropped.ensures c.in-Ok.ensures
 
 pub returns : goal.returns
 returns g c =

@@ -19,7 +19,7 @@ loop-branch-init g c =
 
 pub loop-branch-preserved : goal.loop-branch-preserved
 loop-branch-preserved g c =
-    conditional_round c.args.rest.now c.loop-branch.branch-index c.branch-item.result c.loop-branch.last _ _ c.loop-branch.choices _ _ c.args.around.now _ _ _ c.loop-branch-test.true c.branch-item.is c.loop-branch.invariant c.in_ok-gives.ensures c.in_ok-next.ensures c.in_ok-push.ensures.ok
+    conditional_round c.args.rest.now c.loop-branch.branch-index c.branch-item.result c.loop-branch.last _ _ c.loop-branch.choices _ _ c.args.around.now _ _ _ c.loop-branch-test.true c.branch-item.is c.loop-branch.invariant c.in-Ok.ensures c.in-Ok-expr.ensures c.in-Ok-push.ensures.ok
 
 pub returns : goal.returns
 returns g c =

@@ -9,4 +9,4 @@ use Rattle.c_type_trees.proofs.walker.Walker.declared_type.Goals as goal
 pub returns : goal.returns
 returns g c =
     let place : c.name_place-place.result ≡ name_place (declarator_typing c.args.tree.now).name c.args.place = cc in
-    declared (declarator_typing c.args.tree.now) c.args.defining c.args.place c.args.basis c.args.around.now _ _ _ _ _ c.in_ok-all.ensures (rw place at c.derive_if_both.ensures)
+    declared (declarator_typing c.args.tree.now) c.args.defining c.args.place c.args.basis c.args.around.now _ _ _ _ _ c.in-Ok.ensures (rw place at c.derive_if_both.ensures)

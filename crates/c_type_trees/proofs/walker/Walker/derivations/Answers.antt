@@ -14,4 +14,4 @@ returns g c =
     let beside : c.defines_beside-beside.result ≡ (not (is_some (direct_typing node.direct).makes) && c.args.defining) = cc in
     rw (declarator_typing-is c.args.tree.now)
     (derived (direct_typing node.direct) (map declarator_suffix_typing node.suffixes) node.pointers c.args.defining _ _ _ _ c.parts_if_both.result c.args.around.now _ _ c.suffixes_parts.new.found
-    inside beside c.in_ok-inner.ensures (rw c.as_slice.ensures at c.in_ok-outer.ensures) (rw c.as_slice-2.ensures at c.parts_if_both.ensures))
+    inside beside c.in_ok-inner.ensures (rw c.as_slice.ensures at c.in-Ok.ensures) (rw c.as_slice-2.ensures at c.parts_if_both.ensures))

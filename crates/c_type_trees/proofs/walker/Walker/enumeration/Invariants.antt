@@ -10,4 +10,4 @@ use Rattle.c_type_trees.proofs.walker.Walker.enumeration.Given as goal
 abbrev pub invariant-loop-one : goal.invariant-loop-one
 invariant-loop-one g l =
     after (enum_row l.fn.tag (map enumerator_typing l.list)) l.around l.fn.found
-    ≡ after (enumeration_left l.number l.next (map enumerator_typing (drop l.one-index l.list))) l.around l.found
+    ≡ after (enumeration_left l.fn.tag l.number l.next (map enumerator_typing (drop l.one-index l.list))) l.around l.found

@@ -11,8 +11,8 @@ loop-operand-init g c = rw c.new-begun.ensures (same_sym _ _ (bind_offer (expr_t
 
 pub loop-operand-preserved : goal.loop-operand-preserved
 loop-operand-preserved g c =
-    deeper_begun c.args.tree.now _ c.in-Some.operand.now _ _ _ refl (sym c.in-Some.ensures.first) c.in_ok-push.ensures.ok c.loop-operand.invariant
+    deeper_begun c.args.tree.now _ c.in-Some.operand.now _ _ _ refl (sym c.in-Some.ensures.first) c.in-Ok.ensures.ok c.loop-operand.invariant
 
 pub returns : goal.returns
 returns g c =
-    innermost_begun c.args.tree.now _ _ _ c.behind_all.result c.args.around.now _ _ c.behind_all.new.found c.loop-operand.invariant (sym c.in_default.ensures.first) c.in_ok-value.ensures c.behind_all.ensures
+    innermost_begun c.args.tree.now _ _ _ c.behind_all.result c.args.around.now _ _ c.behind_all.new.found c.loop-operand.invariant (sym c.in_default.ensures.first) c.in-Ok-other.ensures c.behind_all.ensures

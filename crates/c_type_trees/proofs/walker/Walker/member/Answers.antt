@@ -13,4 +13,4 @@ pub returns : goal.returns
 returns g c =
     let node = out-Member c.args.tree.now in
     rw (member_typing-is c.args.tree.now)
-    (then_walk (specifiers_row false (map specifier_typing node.specifiers)) (λ b. all_in_row (map (one_member b) (map member_declarator_typing node.declarators))) c.args.around.now _ _ _ _ _ (rw c.as_slice.ensures at c.in_ok-basis.ensures) (rw c.as_slice-2.ensures at c.member_declarators.ensures))
+    (then_walk (specifiers_row false (map specifier_typing node.specifiers)) (λ b. all_in_row (map (one_member b) (map member_declarator_typing node.declarators))) c.args.around.now _ _ _ _ _ (rw c.as_slice.ensures at c.in_ok-basis.ensures) (rw c.as_slice-2.ensures at c.member_declarators-all.ensures))

@@ -18,7 +18,7 @@ loop-one-init g c =
 
 pub loop-one-preserved : goal.loop-one-preserved
 loop-one-preserved g c =
-    members_round c.args.list.now c.loop-one.one-index c.one-item.result c.loop-one.all _ _ _ c.args.around.now _ _ c.loop-one-test.true c.one-item.is c.loop-one.invariant c.in_ok-more.ensures c.in_ok-all.ensures
+    members_round c.args.list.now c.loop-one.one-index c.one-item.result c.loop-one.all _ _ _ c.args.around.now _ _ c.loop-one-test.true c.one-item.is c.loop-one.invariant c.in-Ok.ensures c.in_ok-all.ensures
 
 pub returns : goal.returns
 returns g c =

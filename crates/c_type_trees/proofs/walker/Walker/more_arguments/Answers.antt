@@ -11,7 +11,7 @@ use Rattle.c_type_trees.proofs.walker.Walker.more_arguments.Goals as goal
 
 pub loop-next-preserved : goal.loop-next-preserved
 loop-next-preserved g c =
-    more_arguments_round c.args.rest.now c.loop-next.next-index c.next-item.result c.loop-next.all.items _ _ _ _ c.args.around.now _ _ c.loop-next-test.true c.next-item.is c.loop-next.invariant c.in_ok-value.ensures c.first_token.ensures c.in_ok-push.ensures.items
+    more_arguments_round c.args.rest.now c.loop-next.next-index c.next-item.result c.loop-next.all.items _ _ _ _ c.args.around.now _ _ c.loop-next-test.true c.next-item.is c.loop-next.invariant c.in-Ok.ensures c.first_token.ensures c.in_ok-all.ensures
 
 pub returns : goal.returns
 returns g c =

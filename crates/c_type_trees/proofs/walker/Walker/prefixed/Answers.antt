@@ -13,4 +13,4 @@ use Rattle.c_type_trees.proofs.walker.Walker.prefixed.Goals as goal
 pub returns : goal.returns
 returns g c =
     then_walk (prefixes_walk (map prefix_typing c.args.run.now)) (λ qs. (expr_typing c.args.operand.now).typed >>= λ o. asked qs (λ qs. prefixes_row qs o)) c.args.around.now _ _ _ _ _ c.in_ok-all.ensures
-    (then_walk (expr_typing c.args.operand.now).typed (λ o. asked (option_map (λ all. map (option_map prefixing) all) c.in_ok-all.all) (λ qs. prefixes_row qs o)) c.args.around.now _ _ _ _ _ c.in_ok-value.ensures c.prefixed_if_any.ensures)
+    (then_walk (expr_typing c.args.operand.now).typed (λ o. asked (option_map (λ all. map (option_map prefixing) all) c.in_ok-all.all) (λ qs. prefixes_row qs o)) c.args.around.now _ _ _ _ _ c.in-Ok.ensures c.prefixed_if_any.ensures)

@@ -21,8 +21,8 @@ loop-one-init g c =
 
 pub loop-one-preserved : goal.loop-one-preserved
 loop-one-preserved g c =
-    prefixes_round c.args.run.now c.loop-one.one-index c.one-item.result (map (option_map prefixing) c.loop-one.all) _ _ _ c.args.around.now _ _ c.loop-one-test.true c.one-item.is c.loop-one.invariant c.in_ok-given.ensures
-    (ap (map (option_map prefixing)) c.in_ok-push.ensures.ok ∙ map-append (option_map prefixing) c.loop-one.all (c.in_ok-given.given ∷ []))
+    prefixes_round c.args.run.now c.loop-one.one-index c.one-item.result (map (option_map prefixing) c.loop-one.all) _ _ _ c.args.around.now _ _ c.loop-one-test.true c.one-item.is c.loop-one.invariant c.in-Ok.ensures
+    (ap (map (option_map prefixing)) c.in-Ok-push.ensures.ok ∙ map-append (option_map prefixing) c.loop-one.all (c.in-Ok.given ∷ []))
 
 pub returns : goal.returns
 returns g c =

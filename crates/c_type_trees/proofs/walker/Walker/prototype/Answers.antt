@@ -12,4 +12,4 @@ use Rattle.c_type_trees.proofs.walker.Walker.prototype.Goals as goal
 pub returns : goal.returns
 returns g c =
     prototyped (parameters_row 0 (map parameter_typing c.args.list.now)) c.args.around.now (record c.in_scope.result { at_file_level = false }) _ _ _ _
-    (ap (λ (a : scopes.Around). record a { at_file_level = false }) c.in_scope.ensures) c.in_ok-all.ensures c.close.ensures.faults (first_of (search rules, grind (arith, common_steps)))
+    (ap (λ (a : scopes.Around). record a { at_file_level = false }) c.in_scope.ensures) c.in-Ok.ensures c.close.ensures.faults (first_of (search rules, grind (arith, common_steps)))

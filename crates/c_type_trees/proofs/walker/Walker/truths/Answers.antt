@@ -10,7 +10,7 @@ use Rattle.c_type_trees.proofs.walker.Walker.truths.Goals as goal
 
 pub loop-next-preserved : goal.loop-next-preserved
 loop-next-preserved g c =
-    truths_round c.args.rest.now c.loop-next.next-index c.next-item.result c.loop-next.all _ _ _ _ c.args.around.now _ _ _ c.loop-next-test.true c.next-item.is c.loop-next.invariant c.in_ok-right.ensures c.in_ok-truth.ensures c.in_ok-all.ensures
+    truths_round c.args.rest.now c.loop-next.next-index c.next-item.result c.loop-next.all _ _ _ _ c.args.around.now _ _ _ c.loop-next-test.true c.next-item.is c.loop-next.invariant c.in-Ok.ensures c.in-Ok-truth_if_any.ensures c.in_ok-all.ensures
 
 pub returns : goal.returns
 returns g c =
