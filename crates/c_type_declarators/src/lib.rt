@@ -22,7 +22,8 @@ pub use derivations::{
     array_part, complete_row, declarator_parts, derive, function_part, pointing,
 };
 pub use enumerations::{
-    declared_enumerator, enum_begun, enum_ended, following_number, plain_enumerator, valued_enumerator,
+    declared_enumerator, enum_begun, enum_ended, following_number, plain_enumerator,
+    valued_enumerator,
 };
 pub use names::{copied_identifier, name_place};
 pub use parameters::{

@@ -214,7 +214,9 @@ fn has_fixed(fixed: &Items<bool>, layout: &StructLayout) -> bool
     ensures { result ≡ spec.has_fixed fixed.now layout.now }
 {
     let members = layout.members.as_slice();
-    members.iter().any(|member| is_read_only(fixed, &member.ctype))
+    members
+        .iter()
+        .any(|member| is_read_only(fixed, &member.ctype))
 }
 
 /// Keeps of a structure type, where there is one of this number, whether an object of it may be modified.

@@ -4,9 +4,9 @@
 ghost use Rattle.c_typing.specs.Declarators as spec;
 ghost use Rattle.c_type_walk.specs.Walks.{Walks};
 
+use crate::structures::new_struct;
 use c_tree::typed::{Base, CType};
 use c_tree::{FaultKind, Identifier};
-use crate::structures::new_struct;
 use c_type_rules::plain;
 use c_type_walk::{Around, Found};
 use c_typing::Tag;

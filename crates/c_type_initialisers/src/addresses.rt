@@ -47,7 +47,13 @@ pub(crate) fn operand_address(
     ensures { result ≡ spec.operand_address (spec.static_size (fixed around.now) found.now.state) operand.now }
 {
     let start = address_of(&operand.base, found, around);
-    stepped_address(operand.steps.as_slice(), &operand.base, found, around, start)
+    stepped_address(
+        operand.steps.as_slice(),
+        &operand.base,
+        found,
+        around,
+        start,
+    )
 }
 
 /// What steps behind an expression make of its address.

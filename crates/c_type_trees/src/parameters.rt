@@ -13,8 +13,8 @@ use crate::names::{first_specifier, name};
 use crate::nested::{Tree, Typed};
 use crate::sequences::joined;
 use crate::types::{
-    adjusted_if_any, basis_type, copied_numbers, parameter_basis_if_any,
-    parameter_if_both, register_of,
+    adjusted_if_any, basis_type, copied_numbers, parameter_basis_if_any, parameter_if_both,
+    register_of,
 };
 use crate::walker::Walker;
 use c_tree::typed::CType;

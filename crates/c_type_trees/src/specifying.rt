@@ -18,8 +18,8 @@ use crate::walker::Walker;
 use c_tree::typed::{Base, CType};
 use c_tree::{Enumerator, Identifier, Specifier};
 use c_type_declarators::{
-    SpecifierParts, basis_of, enum_begun, enum_ended, enum_tag_row, following_number, plain_enumerator,
-    struct_tag_row, typedef_named, valued_enumerator,
+    SpecifierParts, basis_of, enum_begun, enum_ended, enum_tag_row, following_number,
+    plain_enumerator, struct_tag_row, typedef_named, valued_enumerator,
 };
 use c_type_rules::plain;
 use c_type_walk::{Around, Found};

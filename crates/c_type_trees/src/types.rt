@@ -17,8 +17,8 @@ ghost use Rattle.c_type_trees.specs.Sequences as sequences;
 use c_tree::typed::CType;
 use c_tree::{Identifier, Pointer, Pos, Storage, TypeWord};
 use c_type_declarators::{
-    SpecifierParts, adjusted_parameter, array_part, count_row, declarator_parts, derive, is_register,
-    members_row, parameter_basis, parameter_given,
+    SpecifierParts, adjusted_parameter, array_part, count_row, declarator_parts, derive,
+    is_register, members_row, parameter_basis, parameter_given,
 };
 use c_type_rules::copied;
 use c_type_walk::{Around, Found};

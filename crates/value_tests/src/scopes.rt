@@ -1,0 +1,122 @@
+//! A table by example: what inner scopes hide, and what is there again once they are left.
+//! No rows and no walk.
+
+use scope_map::ScopeMap;
+use std::alloc::Global;
+use std::test::Fail;
+use word_ops::{Memory, Text};
+
+type Table = ScopeMap<Text, u8>;
+
+fn name(alloc: Global, letter: u8) -> Result<Text, Memory> {
+    Ok(Text::from_vec(vec![in alloc; letter]?))
+}
+
+fn insert(alloc: Global, table: &mut Table, letter: u8, value: u8) -> Result<(), Memory> {
+    table.insert(name(alloc, letter)?, value)
+}
+
+fn insert_at(
+    alloc: Global,
+    table: &mut Table,
+    mark: usize,
+    letter: u8,
+    value: u8,
+) -> Result<(), Memory> {
+    let key = name(alloc, letter)?;
+    if mark <= table.mark() {
+        table.insert_at(mark, key, value)?;
+    }
+    Ok(())
+}
+
+fn leave(table: &mut Table, mark: usize) {
+    if mark <= table.mark() {
+        table.leave(mark);
+    }
+}
+
+fn value(alloc: Global, table: &Table, letter: u8) -> Result<Option<u8>, Memory> {
+    let key = name(alloc, letter)?;
+    Ok(table.get(&key).copied())
+}
+
+fn value_between(
+    alloc: Global,
+    table: &Table,
+    marks: (usize, usize),
+    letter: u8,
+) -> Result<Option<u8>, Memory> {
+    let key = name(alloc, letter)?;
+    Ok(table.get_between(marks.0, marks.1, &key).copied())
+}
+
+fn value_since(
+    alloc: Global,
+    table: &Table,
+    mark: usize,
+    letter: u8,
+) -> Result<Option<u8>, Memory> {
+    let key = name(alloc, letter)?;
+    Ok(table.get_since(mark, &key).copied())
+}
+
+/// `a` is 1 outside, 2 in a scope, and in the scope inside that `b` is 3. Gives the marks of the two.
+fn declare_all(alloc: Global, table: &mut Table) -> Result<(usize, usize), Memory> {
+    insert(alloc, table, b'a', 1)?;
+    let outer = table.mark();
+    insert(alloc, table, b'a', 2)?;
+    let inner = table.mark();
+    insert(alloc, table, b'b', 3)?;
+    Ok((outer, inner))
+}
+
+/// `a`, `a` of the inner scope alone, `a` before the outer one, and `b`.
+fn values_inside(
+    alloc: Global,
+    table: &Table,
+    (outer, inner): (usize, usize),
+) -> Result<[Option<u8>; 4], Memory> {
+    let a = value(alloc, table, b'a')?;
+    let own = value_since(alloc, table, inner, b'a')?;
+    let before = value_between(alloc, table, (0, outer), b'a')?;
+    let b = value(alloc, table, b'b')?;
+    Ok([a, own, before, b])
+}
+
+/// Declares `b` as 4 where the outer scope begins: `b`, `a` and `b` behind the inner scope, and `b` behind the outer one.
+fn values_behind(
+    alloc: Global,
+    table: &mut Table,
+    (outer, inner): (usize, usize),
+) -> Result<[Option<u8>; 4], Memory> {
+    insert_at(alloc, table, outer, b'b', 4)?;
+    let hidden = value(alloc, table, b'b')?;
+    leave(table, inner);
+    let a = value(alloc, table, b'a')?;
+    let b = value(alloc, table, b'b')?;
+    leave(table, outer);
+    let last = value(alloc, table, b'b')?;
+    Ok([hidden, a, b, last])
+}
+
+fn all_values(
+    alloc: Global,
+    table: &mut Table,
+) -> Result<([Option<u8>; 4], [Option<u8>; 4]), Memory> {
+    let marks = declare_all(alloc, table)?;
+    let inside = values_inside(alloc, table, marks)?;
+    let behind = values_behind(alloc, table, marks)?;
+    Ok((inside, behind))
+}
+
+#[test]
+fn inner_scopes_hide_and_are_forgotten(rt: HostRuntime) -> Result<(), Fail> {
+    let mut table = ScopeMap::new(rt.alloc());
+    let values = all_values(rt.alloc(), &mut table);
+    drop(table);
+    let (inside, behind) = values?;
+    assert!(rt; inside == [Some(2), None, Some(1), Some(3)]);
+    assert!(rt; behind == [Some(3), Some(1), Some(4), None]);
+    Ok(())
+}
