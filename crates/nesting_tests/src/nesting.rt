@@ -1,3 +1,6 @@
+//! Sources that nest as deep as the grammar allows, one kind of nesting each, are read and typed within the stack of a test.
+//! No rows and no walk.
+
 use c_expr_parser::{ParseFault, expression};
 use c_lexer::lex;
 use c_tree::Tokens;
