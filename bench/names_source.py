@@ -37,6 +37,13 @@ KINDS = {
     "derivations": lambda n: rows(f"int {'*' * n}d{{0}};\n", POINTERS) + main_of(""),
     "literals": lambda n: main_of("char *p;\n" + rows("p = \"text {0}\";\n", n)),
     "functions": lambda n: rows("static int f{0}(int a) {{ return a; }}\n", n) + main_of(rows("f{0}(1);\n", n)),
+    "prototypes": lambda n: rows("int f{0}(int a);\n", n) + main_of(""),
+    "addressed-globals": lambda n: rows("int g{0};\nint *p{0} = &g{0};\n", n) + main_of(""),
+    "addressed-locals": lambda n: main_of("int *p;\n" + rows("int l{0};\n", n) + rows("p = &l{0};\n", n)),
+    "member-uses": lambda n: f"struct s {{ {rows('int m{0}; ', n)} }};\n" + main_of("struct s x;\n" + rows("x.m{0} = 1;\n", n)),
+    "cases": lambda n: main_of("switch (0) {\n" + rows("case {0}: ;\n", n) + "}\n"),
+    "pointers": lambda n: rows("typedef int *t{0};\nt{0} *p{0};\n", n) + main_of(""),
+    "chain": lambda n: "typedef int t0;\n" + "".join(f"typedef t{i} *t{i + 1};\n" for i in range(n)) + main_of(""),
 }
 
 

@@ -3,7 +3,7 @@
 
 Each kind of nesting is repeated until the parser refuses it, and once less often it is read. Of that source the least stack is
 found with which the program reads it, and with which it types it, in steps of 16 KiB. The status is 1 where one takes more than
-LIMIT, but for typing the kind of which that is known.
+LIMIT.
 """
 
 import os
@@ -36,8 +36,6 @@ KINDS = {
     "switches": ("int main(void){", "switch(0){case 0:", ";", "}", "return 0;}"),
     "all levels": ("int main(void){int x;x=0;return ", "(0,x=0?1:0||0&&0|0^0&0==0<0<<0+0*-", "x", ")", ";}"),
 }
-# where typing is known to take more: each tree inside another stays on its stack, and here are up to fifteen to a bracket
-KNOWN = {"all levels"}
 
 
 def status(program, layer, source, stack):
@@ -85,7 +83,7 @@ def main():
             reading = least(program, "unit", source)
             is_typed = status(program, "types", source, 65536) == 0
             typing = least(program, "types", source) if is_typed else 0
-            too_much |= reading > LIMIT or (typing > LIMIT and kind not in KNOWN)
+            too_much |= reading > LIMIT or typing > LIMIT
             print(f"{kind}, {deepest} deep: {reading} KiB to read, {f'{typing} KiB to type' if is_typed else 'no types'}", flush=True)
     sys.exit(1 if too_much else 0)
 

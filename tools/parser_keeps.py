@@ -74,7 +74,8 @@ EXPRESSIONS = {
 }
 
 
-# Of the parser of units: the calls that `?` gives on, in order, and whether the function ends behind them.
+# Of the parser of units: the calls that `?` gives on, in order, and whether the function ends behind them; or the calls, one on
+# each way, whose results it gives.
 UNITS = {
     "assigned": "value? .",
     "first_initialiser": "value? .",
@@ -105,6 +106,9 @@ UNITS = {
     "do_statement": "word? body?",
     "for_statement": "word? control?",
     "switch_statement": "word? condition?",
+    "statement": ">in-Braced=block_statement >in-If=if_statement >in-While=while_statement >in-Do=do_statement >in-For=for_statement"
+    " >in-Switch=switch_statement >in-Break=break_statement >in-Continue=continue_statement >in-Return=return_statement"
+    " >in-Expression=expression_statement",
     "function_body": "declare_parameters? body?",
     "external": "specifiers?",
 }
@@ -148,7 +152,12 @@ def kept(steps):
 def answer_of_units(at, goal, steps):
     """The answers for the way at this place among a function's ways: the residual of the first `?` has no longer name."""
     residual = "c.from_residual" + (f"-{goal.removeprefix('returns-')}" if at else "")
-    keeps = kept(steps) if goal == "returns" else f"refused _ {residual}.result {residual}.ensures.0"
+    if goal == "returns":
+        keeps = kept(steps)
+    elif goal.startswith("returns-in_err-"):
+        keeps = f"refused _ {residual}.result {residual}.ensures.0"
+    else:
+        keeps = f"c.{steps[0]}.ensures.keeps"
     return clause(goal, "keeps", keeps) + clause(goal, "ends", " ∙ ".join(f"c.{step}.ensures.ends" for step in reversed(steps)))
 
 
@@ -164,7 +173,7 @@ def main():
         write("c_expr_parser", function, "", "".join(clause(goal, "keeps", kept(steps)) for goal, steps in ways(path)))
     for function, path in UNITS.items():
         text = "".join(answer_of_units(at, *way) for at, way in enumerate(ways(path)))
-        uses = "use Rattle.std.proofs.Common.{◌∙◌}\n" * ("∙" in text) + "use Rattle.c_unit_parser.proofs.Refused.{refused}\n"
+        uses = "use Rattle.std.proofs.Common.{◌∙◌}\n" * ("∙" in text) + "use Rattle.c_unit_parser.proofs.Refused.{refused}\n" * ("refused" in text)
         write("c_unit_parser", function, uses, text)
 
 

@@ -1,5 +1,5 @@
--- What the calls ensure, by the trees of a production and the grammar's function on lists.
--- All of it is the record `Answers`; what stands behind it joins the calls to the productions.
+-- What the calls ask and ensure, by the trees of a production and the grammar's function on lists.
+-- They ask the record `Stands` and ensure the record `Answers`; what stands behind that joins the calls to the productions.
 use Rattle.std.specs.Prelude.{◌≡◌, ◌≢◌, ℕ, ◌+◌, ◌≤◌, true, ◌++◌, length, drop, Option, Some, None, Result, Ok, Err, IfOk, IfErr}
 use Rattle.c_tree.specs.declared.token.Pos.{Pos}
 use Rattle.c_tree.specs.Levelled.{nesting_limit}
@@ -11,6 +11,11 @@ use Rattle.c_expr_parser.specs.declared.fault.ParseFault.TheVariants as fault
 use Rattle.c_expr_parser.specs.declared.fault.Stop.{Stop}
 use Rattle.c_expr_parser.specs.declared.fault.Stop.TheVariants as stop
 use Rattle.c_expr_parser.specs.Reads.{next_place}
+
+-- What a call asks: a place of the tokens, or their end, and no more brackets open than may be.
+pub record Stands (tokens : Tokens) (at depth : ℕ) : Type 0 where
+  pub place : at ≤ length tokens
+  pub nesting : depth ≤ nesting_limit
 
 -- one list is the other with something behind it
 abbrev pub GoesOn : Names → Names → Type 0

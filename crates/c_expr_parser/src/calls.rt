@@ -1,7 +1,7 @@
 //! The public calls.
 //! Each makes a cursor at its place of the tokens, reads what is wanted, and gives the names back.
 
-ghost use Rattle.std.specs.Prelude.{◌≡◌, suc, ◌-◌, ◌≤◌, length};
+ghost use Rattle.std.specs.Prelude.{◌≡◌, suc, ◌-◌};
 ghost use Rattle.c_tree.specs.Levelled.{nesting_limit};
 ghost use Rattle.c_tree.specs.Levels.Productions as production;
 ghost use Rattle.c_grammar.specs.Read.Depth as grammar;
@@ -23,8 +23,8 @@ use word_ops::Text;
 /// The names that are visible, each with whether it is a typedef name.
 pub type Names = ScopeMap<Text, bool>;
 
-// How deep brackets may be open.
-const DEEPEST: u32 = 256;
+/// How deep tokens may nest.
+pub const DEEPEST: u32 = 256;
 
 // Why a call stopped at this place, or at the end where there is none.
 fn fault_at(stop: Stop, place: Option<Pos>, end: Pos) -> ParseFault
@@ -50,8 +50,7 @@ fn read(
     depth: u32,
     wanted: Wanted,
 ) -> Result<(Found, usize), ParseFault>
-    requires place { at ≤ length tokens.now.list }
-    requires nesting { depth ≤ 256 }
+    requires { call.Stands tokens.now.list at depth }
     ensures { call.Gives (inner.read (grammar.inside (suc (nesting_limit - depth))) wanted) names.old names.new tokens.now.list at tokens.now.end result }
 {
     let visible = mem::replace(names, ScopeMap::new(alloc));
@@ -75,8 +74,7 @@ fn read_expression(
     depth: u32,
     within: Within,
 ) -> Result<(Expr, usize), ParseFault>
-    requires place { at ≤ length tokens.now.list }
-    requires nesting { depth ≤ 256 }
+    requires { call.Stands tokens.now.list at depth }
     ensures { call.Gives (grammar.expression (nesting_limit - depth) (within_number within)) names.old names.new tokens.now.list at tokens.now.end result }
 {
     let (found, behind) = read(alloc, tokens, at, names, depth, Wanted::Expression(within))?;
@@ -94,8 +92,7 @@ fn read_specifiers(
     depth: u32,
     with_storage: bool,
 ) -> Result<(Specifiers, usize), ParseFault>
-    requires place { at ≤ length tokens.now.list }
-    requires nesting { depth ≤ 256 }
+    requires { call.Stands tokens.now.list at depth }
     ensures { call.Gives (grammar.specifiers (nesting_limit - depth) with_storage) names.old names.new tokens.now.list at tokens.now.end result }
 {
     let (found, behind) = read(
@@ -121,8 +118,7 @@ fn read_declarator(
     purpose: Use,
     typed: bool,
 ) -> Result<(Declarator, usize), ParseFault>
-    requires place { at ≤ length tokens.now.list }
-    requires nesting { depth ≤ 256 }
+    requires { call.Stands tokens.now.list at depth }
     ensures { call.Gives (grammar.declarator (nesting_limit - depth) (use_of purpose) typed) names.old names.new tokens.now.list at tokens.now.end result }
 {
     let (found, behind) = read(
@@ -156,8 +152,7 @@ pub fn expression(
     names: &mut Names,
     depth: u32,
 ) -> Result<(Expr, usize), ParseFault>
-    requires place { at ≤ length tokens.now.list }
-    requires nesting { depth ≤ 256 }
+    requires { call.Stands tokens.now.list at depth }
     ensures { call.Answers (trees.expressions production.comma) (grammar.expression (nesting_limit - depth) production.comma) names.old names.new tokens.now.list at depth tokens.now.end result }
 {
     read_expression(alloc, tokens, at, names, depth, Within::Comma)
@@ -171,8 +166,7 @@ pub fn assignment(
     names: &mut Names,
     depth: u32,
 ) -> Result<(Expr, usize), ParseFault>
-    requires place { at ≤ length tokens.now.list }
-    requires nesting { depth ≤ 256 }
+    requires { call.Stands tokens.now.list at depth }
     ensures { call.Answers (trees.expressions production.assignment) (grammar.expression (nesting_limit - depth) production.assignment) names.old names.new tokens.now.list at depth tokens.now.end result }
 {
     read_expression(alloc, tokens, at, names, depth, Within::Assignment)
@@ -186,8 +180,7 @@ pub fn conditional(
     names: &mut Names,
     depth: u32,
 ) -> Result<(Expr, usize), ParseFault>
-    requires place { at ≤ length tokens.now.list }
-    requires nesting { depth ≤ 256 }
+    requires { call.Stands tokens.now.list at depth }
     ensures { call.Answers (trees.expressions production.conditional) (grammar.expression (nesting_limit - depth) production.conditional) names.old names.new tokens.now.list at depth tokens.now.end result }
 {
     read_expression(alloc, tokens, at, names, depth, Within::Conditional)
@@ -203,8 +196,7 @@ pub fn specifiers(
     depth: u32,
     with_storage: bool,
 ) -> Result<(Specifiers, usize), ParseFault>
-    requires place { at ≤ length tokens.now.list }
-    requires nesting { depth ≤ 256 }
+    requires { call.Stands tokens.now.list at depth }
     ensures { call.Answers (trees.specifier_lists with_storage) (grammar.specifiers (nesting_limit - depth) with_storage) names.old names.new tokens.now.list at depth tokens.now.end result }
 {
     read_specifiers(alloc, tokens, at, names, depth, with_storage)
@@ -223,8 +215,7 @@ pub fn declarator(
     purpose: Use,
     typed: bool,
 ) -> Result<(Declarator, usize), ParseFault>
-    requires place { at ≤ length tokens.now.list }
-    requires nesting { depth ≤ 256 }
+    requires { call.Stands tokens.now.list at depth }
     ensures { call.Answers (trees.declarators (use_of purpose) typed) (grammar.declarator (nesting_limit - depth) (use_of purpose) typed) names.old names.new tokens.now.list at depth tokens.now.end result }
 {
     read_declarator(alloc, tokens, at, names, depth, purpose, typed)

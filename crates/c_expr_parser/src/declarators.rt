@@ -14,7 +14,7 @@ ghost use Rattle.c_expr_parser.specs.Nests.{Nests};
 use crate::cursor::Cursor;
 use crate::fault::Stop;
 use crate::grammar::Grammar;
-use crate::memory::{boxed, copied, pushed};
+use crate::memory::{alone, boxed, copied, pushed};
 use crate::nodes::{declared_name, have_typedef, is_nothing, name_type};
 use crate::wanted::{Found, Use, Wanted, Within};
 use crate::words::{is_const, is_mark, is_void};
@@ -61,7 +61,7 @@ fn constants(alloc: Global, input: &mut Cursor<'_>) -> Result<Items<Pos>, Stop>
             return Ok(found);
         }
         let next = or_drop!(const_word(input), found);
-        found = pushed(found, next)?;
+        found = pushed(alloc, found, next)?;
     }
     Ok(found)
 }
@@ -87,7 +87,7 @@ fn pointers(alloc: Global, input: &mut Cursor<'_>) -> Result<Items<Pointer>, Sto
             return Ok(found);
         }
         let next = or_drop!(pointer(alloc, input), found);
-        found = pushed(found, next)?;
+        found = pushed(alloc, found, next)?;
     }
     Ok(found)
 }
@@ -261,13 +261,13 @@ impl<F: Fn(Global, &mut Cursor<'_>, usize, Wanted) -> Result<Found, Stop>> Gramm
         ensures keeps { Keeps input.old input.new }
     {
         let first = self.parameter(input, None)?;
-        let mut found = pushed(Items::new(self.alloc), first)?;
+        let mut found = alone(self.alloc, first)?;
         for _turn in 0..input.left() {
             if !input.sees(Punct::Comma) {
                 return Ok(found);
             }
             let next = or_drop!(self.next_parameter(input), found);
-            found = pushed(found, next)?;
+            found = pushed(self.alloc, found, next)?;
         }
         Ok(found)
     }
@@ -329,7 +329,7 @@ impl<F: Fn(Global, &mut Cursor<'_>, usize, Wanted) -> Result<Found, Stop>> Gramm
                 return Ok(found);
             }
             let next = or_drop!(self.declarator_suffix(input), found);
-            found = pushed(found, next)?;
+            found = pushed(self.alloc, found, next)?;
         }
         Ok(found)
     }

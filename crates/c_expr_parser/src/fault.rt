@@ -2,7 +2,6 @@
 //! A production gives the reason alone; a call adds the place.
 
 use c_tree::Pos;
-use std::alloc::{AllocError, AllocFailed};
 use thiserror::Error;
 use word_ops::Memory;
 
@@ -38,28 +37,6 @@ impl From<Memory> for Stop {
     ghost from_gives = { λ _ e. e ≡ stop.Memory };
 
     fn from(_refused: Memory) -> Stop {
-        Stop::Memory
-    }
-}
-
-impl From<AllocError> for Stop {
-    ghost use Rattle.std.specs.Prelude.{◌≡◌};
-    ghost use Rattle.c_expr_parser.specs.declared.fault.Stop.TheVariants as stop;
-
-    ghost from_gives = { λ _ e. e ≡ stop.Memory };
-
-    fn from(_refused: AllocError) -> Stop {
-        Stop::Memory
-    }
-}
-
-impl<T: Drop> From<AllocFailed<T>> for Stop {
-    ghost use Rattle.std.specs.Prelude.{◌≡◌};
-    ghost use Rattle.c_expr_parser.specs.declared.fault.Stop.TheVariants as stop;
-
-    ghost from_gives = { λ _ e. e ≡ stop.Memory };
-
-    fn from(_refused: AllocFailed<T>) -> Stop {
         Stop::Memory
     }
 }

@@ -36,9 +36,9 @@ mod specifier;
 mod wanted;
 mod words;
 
-pub use calls::{Names, assignment, conditional, declarator, expression, specifiers};
+pub use calls::{DEEPEST, Names, assignment, conditional, declarator, expression, specifiers};
 pub use fault::ParseFault;
-pub use memory::copied;
+pub use memory::{alone, copied, pushed};
 pub use nodes::{declared_name, have_typedef, name_type};
 pub use wanted::Use;
 pub use words::{is_mark, word_begins};

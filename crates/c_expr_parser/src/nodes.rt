@@ -19,6 +19,7 @@ use std::alloc::Global;
 use word_ops::{Items, Text};
 
 /// A postfix expression (C11 6.5.2), or its operand where there is no suffix.
+#[inline(never)]
 pub fn with_suffixes(alloc: Global, first: Expr, rest: Items<Suffix>) -> Result<Expr, Stop>
     ensures { MatchResult result (λ e. e ≡ spec.with_suffixes first rest) (λ e. e ≡ stop.Memory) }
 {
@@ -31,6 +32,7 @@ pub fn with_suffixes(alloc: Global, first: Expr, rest: Items<Suffix>) -> Result<
 }
 
 /// An operand with the prefixes before it (C11 6.5.3, 6.5.4), or alone where there is none.
+#[inline(never)]
 pub fn with_run(alloc: Global, run: Items<Prefix>, operand: Expr) -> Result<Expr, Stop>
     ensures { MatchResult result (λ e. e ≡ spec.with_run run operand) (λ e. e ≡ stop.Memory) }
 {
@@ -43,6 +45,7 @@ pub fn with_run(alloc: Global, run: Items<Prefix>, operand: Expr) -> Result<Expr
 }
 
 /// Operators of a level with their operands (C11 6.5.5 to 6.5.14), or the first operand where there is no operator.
+#[inline(never)]
 pub fn with_operands(
     alloc: Global,
     level: Level,
@@ -60,6 +63,7 @@ pub fn with_operands(
 }
 
 /// A conditional expression (C11 6.5.15), or its first operand where there is no `?`.
+#[inline(never)]
 pub fn with_branches(alloc: Global, first: Expr, rest: Items<Branch>) -> Result<Expr, Stop>
     ensures { MatchResult result (λ e. e ≡ spec.with_branches first rest) (λ e. e ≡ stop.Memory) }
 {
@@ -72,6 +76,7 @@ pub fn with_branches(alloc: Global, first: Expr, rest: Items<Branch>) -> Result<
 }
 
 /// An assignment (C11 6.5.16), or its first operand where nothing is assigned.
+#[inline(never)]
 pub fn with_targets(alloc: Global, first: Expr, rest: Items<Next>) -> Result<Expr, Stop>
     ensures { MatchResult result (λ e. e ≡ spec.with_targets first rest) (λ e. e ≡ stop.Memory) }
 {
@@ -84,6 +89,7 @@ pub fn with_targets(alloc: Global, first: Expr, rest: Items<Next>) -> Result<Exp
 }
 
 /// Operands with commas between (C11 6.5.17), or the first where there is no comma.
+#[inline(never)]
 pub fn with_commas(alloc: Global, first: Expr, rest: Items<Next>) -> Result<Expr, Stop>
     ensures { MatchResult result (λ e. e ≡ spec.with_commas first rest) (λ e. e ≡ stop.Memory) }
 {

@@ -13,7 +13,7 @@ ghost use Rattle.c_expr_parser.specs.Nests.{Nests};
 use crate::cursor::Cursor;
 use crate::fault::Stop;
 use crate::grammar::Grammar;
-use crate::memory::{boxed, copied, pushed};
+use crate::memory::{alone, boxed, copied, pushed};
 use crate::nodes::{ties, with_run, with_suffixes};
 use crate::production::Production;
 use crate::wanted::{Found, Wanted, Within};
@@ -25,6 +25,7 @@ use std::alloc::Global;
 use word_ops::Items;
 
 // A name that is no typedef name, or a constant.
+#[inline(never)]
 #[tactic(auto, unfolding(c_grammar::specs::Input::one, c_grammar::specs::Input::behind))]
 fn atom(alloc: Global, input: &mut Cursor<'_>) -> Result<Expr, Stop>
     ensures reads { Reads (state.one spec.atom_at input.old) result input.new }
@@ -50,6 +51,7 @@ fn atom(alloc: Global, input: &mut Cursor<'_>) -> Result<Expr, Stop>
     Ok(tree)
 }
 
+#[inline(never)]
 #[tactic(auto, unfolding(c_grammar::specs::Input::one, c_grammar::specs::Input::behind))]
 fn literal(alloc: Global, input: &mut Cursor<'_>) -> Result<Literal, Stop>
     ensures reads { Reads (state.one spec.literal_at input.old) result input.new }
@@ -68,6 +70,7 @@ fn literal(alloc: Global, input: &mut Cursor<'_>) -> Result<Literal, Stop>
 }
 
 /// The next token, a punctuator.
+#[inline(never)]
 #[tactic(auto, unfolding(c_grammar::specs::Input::one, c_grammar::specs::Input::behind))]
 pub fn operator(input: &mut Cursor<'_>) -> Result<Mark, Stop>
     ensures reads { Reads (state.one spec.operator_at input.old) result input.new }
@@ -84,6 +87,7 @@ pub fn operator(input: &mut Cursor<'_>) -> Result<Mark, Stop>
     })
 }
 
+#[inline(never)]
 #[tactic(auto, unfolding(c_grammar::specs::Input::one, c_grammar::specs::Input::behind))]
 fn plain_prefix(input: &mut Cursor<'_>) -> Result<Prefix, Stop>
     ensures reads { Reads (state.one spec.prefix_at input.old) result input.new }
@@ -100,6 +104,7 @@ fn plain_prefix(input: &mut Cursor<'_>) -> Result<Prefix, Stop>
     Ok(prefix)
 }
 
+#[inline(never)]
 #[tactic(auto, unfolding(c_grammar::specs::Input::one, c_grammar::specs::Input::behind))]
 fn sizeof_word(input: &mut Cursor<'_>) -> Result<Pos, Stop>
     ensures reads { Reads (state.one spec.sizeof_at input.old) result input.new }
@@ -114,6 +119,7 @@ fn sizeof_word(input: &mut Cursor<'_>) -> Result<Pos, Stop>
 }
 
 // The literals behind the first.
+#[inline(never)]
 fn more_literals(
     alloc: Global,
     input: &mut Cursor<'_>,
@@ -122,19 +128,20 @@ fn more_literals(
     ensures reads { Reads (parts.literals first input.old) result input.new }
     ensures keeps { Keeps input.old input.new }
 {
-    let mut found = pushed(Items::new(alloc), first)?;
+    let mut found = alone(alloc, first)?;
     for _turn in 0..input.left() {
         if !is_bytes(input.kind()) {
             return Ok(found);
         }
         let next = or_drop!(literal(alloc, input), found);
-        found = pushed(found, next)?;
+        found = pushed(alloc, found, next)?;
     }
     Ok(found)
 }
 
 impl<F: Fn(Global, &mut Cursor<'_>, usize, Wanted) -> Result<Found, Stop>> Grammar<F> {
     /// One or more string literals (C11 6.5.1).
+    #[inline(never)]
     #[tactic(auto, using(crate::proofs::Strings::strings_read, crate::proofs::Strings::strings_refused, crate::proofs::Strings::no_strings))]
     fn strings(&self, input: &mut Cursor<'_>) -> Result<Expr, Stop>
         requires { Nests self.now.more (F.pre self.now.inside) (F.post self.now.inside) }
@@ -146,6 +153,7 @@ impl<F: Fn(Global, &mut Cursor<'_>, usize, Wanted) -> Result<Found, Stop>> Gramm
         Ok(Expr::Strings(all))
     }
 
+    #[inline(never)]
     #[tactic(auto, unfolding(c_grammar::specs::Read::Expressions::member))]
     fn dot(&self, input: &mut Cursor<'_>) -> Result<Suffix, Stop>
         requires { Nests self.now.more (F.pre self.now.inside) (F.post self.now.inside) }
@@ -157,6 +165,7 @@ impl<F: Fn(Global, &mut Cursor<'_>, usize, Wanted) -> Result<Found, Stop>> Gramm
         Ok(Suffix::Member(at, name))
     }
 
+    #[inline(never)]
     #[tactic(auto, unfolding(c_grammar::specs::Read::Expressions::arrow))]
     fn arrow(&self, input: &mut Cursor<'_>) -> Result<Suffix, Stop>
         requires { Nests self.now.more (F.pre self.now.inside) (F.post self.now.inside) }
@@ -168,6 +177,7 @@ impl<F: Fn(Global, &mut Cursor<'_>, usize, Wanted) -> Result<Found, Stop>> Gramm
         Ok(Suffix::Arrow(at, name))
     }
 
+    #[inline(never)]
     #[tactic(auto, unfolding(c_grammar::specs::Read::Expressions::increment))]
     fn increment(&self, input: &mut Cursor<'_>) -> Result<Suffix, Stop>
         requires { Nests self.now.more (F.pre self.now.inside) (F.post self.now.inside) }
@@ -177,6 +187,7 @@ impl<F: Fn(Global, &mut Cursor<'_>, usize, Wanted) -> Result<Found, Stop>> Gramm
         Ok(Suffix::Increment(input.expect(Punct::Increment)?))
     }
 
+    #[inline(never)]
     #[tactic(auto, unfolding(c_grammar::specs::Read::Expressions::decrement))]
     fn decrement(&self, input: &mut Cursor<'_>) -> Result<Suffix, Stop>
         requires { Nests self.now.more (F.pre self.now.inside) (F.post self.now.inside) }
@@ -249,7 +260,7 @@ impl<F: Fn(Global, &mut Cursor<'_>, usize, Wanted) -> Result<Found, Stop>> Gramm
                 return Ok(found);
             }
             let next = or_drop!(self.argument(input), found);
-            found = pushed(found, next)?;
+            found = pushed(self.alloc, found, next)?;
         }
         Ok(found)
     }
@@ -315,7 +326,7 @@ impl<F: Fn(Global, &mut Cursor<'_>, usize, Wanted) -> Result<Found, Stop>> Gramm
                 return Ok(found);
             }
             let next = or_drop!(self.suffix(input), found);
-            found = pushed(found, next)?;
+            found = pushed(self.alloc, found, next)?;
         }
         Ok(found)
     }
@@ -370,7 +381,7 @@ impl<F: Fn(Global, &mut Cursor<'_>, usize, Wanted) -> Result<Found, Stop>> Gramm
             }
             let next = or_drop!(self.prefix(input), found);
             tight = ties(&next);
-            found = pushed(found, next)?;
+            found = pushed(self.alloc, found, next)?;
         }
         Ok(found)
     }

@@ -76,7 +76,7 @@ impl<F: Fn(Global, &mut Cursor<'_>, usize, Wanted) -> Result<Found, Stop>> Gramm
                 return Ok(found);
             }
             let next = or_drop!(self.level_next(input, index), found);
-            found = pushed(found, next)?;
+            found = pushed(self.alloc, found, next)?;
         }
         Ok(found)
     }
@@ -133,7 +133,7 @@ impl<F: Fn(Global, &mut Cursor<'_>, usize, Wanted) -> Result<Found, Stop>> Gramm
                 return Ok(found);
             }
             let next = or_drop!(self.branch(input), found);
-            found = pushed(found, next)?;
+            found = pushed(self.alloc, found, next)?;
         }
         Ok(found)
     }
@@ -175,7 +175,7 @@ impl<F: Fn(Global, &mut Cursor<'_>, usize, Wanted) -> Result<Found, Stop>> Gramm
             }
             let next = or_drop!(self.target(input), found);
             unary = is_unary(&next.operand);
-            found = pushed(found, next)?;
+            found = pushed(self.alloc, found, next)?;
         }
         Ok(found)
     }
@@ -214,7 +214,7 @@ impl<F: Fn(Global, &mut Cursor<'_>, usize, Wanted) -> Result<Found, Stop>> Gramm
                 return Ok(found);
             }
             let next = or_drop!(self.comma_next(input), found);
-            found = pushed(found, next)?;
+            found = pushed(self.alloc, found, next)?;
         }
         Ok(found)
     }

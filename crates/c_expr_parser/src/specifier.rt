@@ -15,7 +15,7 @@ ghost use Rattle.c_expr_parser.specs.Nests.{Nests};
 use crate::cursor::Cursor;
 use crate::fault::Stop;
 use crate::grammar::Grammar;
-use crate::memory::{copied, pushed};
+use crate::memory::{alone, copied, pushed};
 use crate::nodes::{is_type, name_type};
 use crate::wanted::{Found, Use, Wanted, Within};
 use crate::words::{is_enum, is_name, is_struct, storage_of, type_of};
@@ -156,13 +156,13 @@ impl<F: Fn(Global, &mut Cursor<'_>, usize, Wanted) -> Result<Found, Stop>> Gramm
             comma: None,
             declarator,
         };
-        let mut found = pushed(Items::new(self.alloc), first)?;
+        let mut found = alone(self.alloc, first)?;
         for _turn in 0..input.left() {
             if !input.sees(Punct::Comma) {
                 return Ok(found);
             }
             let next = or_drop!(self.next_member_declarator(input, typed), found);
-            found = pushed(found, next)?;
+            found = pushed(self.alloc, found, next)?;
         }
         Ok(found)
     }
@@ -192,13 +192,13 @@ impl<F: Fn(Global, &mut Cursor<'_>, usize, Wanted) -> Result<Found, Stop>> Gramm
         ensures keeps { Keeps input.old input.new }
     {
         let first = self.member(input)?;
-        let mut found = pushed(Items::new(self.alloc), first)?;
+        let mut found = alone(self.alloc, first)?;
         for _turn in 0..input.left() {
             if !input.begins_type(input.kind()) {
                 return Ok(found);
             }
             let next = or_drop!(self.member(input), found);
-            found = pushed(found, next)?;
+            found = pushed(self.alloc, found, next)?;
         }
         Ok(found)
     }
@@ -309,13 +309,13 @@ impl<F: Fn(Global, &mut Cursor<'_>, usize, Wanted) -> Result<Found, Stop>> Gramm
         ensures keeps { Keeps input.old input.new }
     {
         let first = self.enumerator(input, None)?;
-        let mut found = pushed(Items::new(self.alloc), first)?;
+        let mut found = alone(self.alloc, first)?;
         for _turn in 0..input.left() {
             if !goes_enumerator(input) {
                 return Ok(found);
             }
             let next = or_drop!(self.next_enumerator(input), found);
-            found = pushed(found, next)?;
+            found = pushed(self.alloc, found, next)?;
         }
         Ok(found)
     }
@@ -396,14 +396,14 @@ impl<F: Fn(Global, &mut Cursor<'_>, usize, Wanted) -> Result<Found, Stop>> Gramm
     {
         let first = self.specifier(input, with_storage, false)?;
         let mut typed = is_type(&first);
-        let mut found = pushed(Items::new(self.alloc), first)?;
+        let mut found = alone(self.alloc, first)?;
         for _turn in 0..input.left() {
             if !input.begins_specifier(with_storage, typed, input.kind()) {
                 return Ok(found);
             }
             let next = or_drop!(self.specifier(input, with_storage, typed), found);
             typed = types(typed, &next);
-            found = pushed(found, next)?;
+            found = pushed(self.alloc, found, next)?;
         }
         Ok(found)
     }

@@ -4,7 +4,7 @@
 use c_tree::{Declarator, Expr, Specifiers};
 
 /// How a declarator is used, which tells whether it has a name.
-#[derive(Clone, Copy, PartialEq, Eq)]
+#[derive(Clone, Copy)]
 pub enum Use {
     /// In a declaration, a member or a definition: with a name (C11 6.7.6).
     Declaring,

@@ -1,4 +1,5 @@
 -- The laws that tie the parser to the spelling, the levels and the nesting of trees.
+pub mod Tests
 pub mod Form
 pub mod Lists
 pub mod Single

@@ -1,12 +1,10 @@
 -- Members lie in their structure.
-use Rattle.std.proofs.Common.{◌≡◌, refl, sym, ap, ◌∙◌, ℕ, ◌+◌, ◌-◌, ◌%◌, ◌^◌, ◌<◌, ◌≤◌, max, true, Bool, List, [], ◌∷◌, Option, Some, None, is_some, unwrap_or, arith}
+use Rattle.std.proofs.Common.{◌≡◌, refl, sym, ap, ◌∙◌, ℕ, ◌+◌, ◌-◌, ◌%◌, ◌^◌, ◌<◌, ◌≤◌, true, List, [], ◌∷◌, Option, Some, None, unwrap_or, arith}
 use Rattle.std.proofs.Math.Nat.{mod-lt, mod_self, mod-add-mod, add-mod-mod}
-use Rattle.c_tree.specs.declared.typed.types.Base.{Base}
-use Rattle.c_tree.specs.declared.typed.types.Base.TheVariants as base
 use Rattle.c_tree.specs.declared.typed.types.CType.{CType, out-CType}
-use Rattle.c_layout.specs.Tags.{Structs, layout_of, is_alignment, is_aligned, are_aligned}
+use Rattle.c_layout.specs.Tags.{Structs, is_alignment, are_aligned}
 use Rattle.c_layout.specs.Sizes.{capped, base_alignment, alignment_of, is_alignment_if_any}
-use Rattle.c_layout.specs.Structures.{Declared, bytes_of, strictness_of, next_multiple, start_behind, end_behind, end_of, placed, strictest, layout}
+use Rattle.c_layout.specs.Structures.{Declared, strictness_of, next_multiple, start_behind, end_behind, end_of, placed, strictest, layout}
 use Rattle.c_layout.specs.Laws.{LieBetween}
 use Rattle.c_layout.proofs.Caps.{capped_low}
 use Rattle.c_layout.proofs.Completeness.{aligned-aligned, base_alignment-aligned}

@@ -1,14 +1,14 @@
 -- A type has a size and an alignment exactly where it is complete, and the alignment is one of those that there are.
-use Rattle.std.proofs.Common.{◌≡◌, refl, sym, ap, ◌∙◌, ℕ, ◌<◌, Bool, true, false, ◌&&◌, List, [], ◌∷◌, Option, Some, None, is_some, zero, suc}
+use Rattle.std.proofs.Common.{◌≡◌, refl, ap, ◌∙◌, ℕ, true, List, [], ◌∷◌, Option, Some, None, is_some, zero, suc}
 use Rattle.std.specs.Option.{option_map}
 use Rattle.c_tree.specs.declared.typed.types.Base.{Base}
 use Rattle.c_tree.specs.declared.typed.types.Base.TheVariants as base
-use Rattle.c_tree.specs.declared.typed.types.Derived.{Derived, Row_of-CType}
+use Rattle.c_tree.specs.declared.typed.types.Derived.{Derived}
 use Rattle.c_tree.specs.declared.typed.types.Derived.TheVariants as derived
 use Rattle.c_tree.specs.declared.typed.types.CType.{CType, out-CType}
 use Rattle.c_layout.specs.declared.tags.StructLayout.{StructLayout}
 use Rattle.c_layout.specs.Tags.{Structs, layout_of, is_aligned, are_aligned}
-use Rattle.c_layout.specs.Sizes.{capped, capped_size, sized, aligned, base_size, base_alignment, derived_size, derived_alignment, size_of, alignment_of, is_complete, is_complete_by, is_complete_base, is_complete_derived, is_alignment_if_any}
+use Rattle.c_layout.specs.Sizes.{capped, sized, aligned, base_size, base_alignment, derived_size, derived_alignment, size_of, alignment_of, is_complete, is_complete_by, is_complete_base, is_complete_derived, is_alignment_if_any}
 use Rattle.c_layout.proofs.Lists.{and-left, and-right}
 
 is_some-option_map : {A B : Type 0} (f : A → B) (o : Option A) → is_some (option_map f o) ≡ is_some o

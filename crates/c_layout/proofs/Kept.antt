@@ -1,14 +1,14 @@
 -- A complete type keeps its size and its alignment.
-use Rattle.std.proofs.Common.{◌≡◌, refl, sym, ap, ◌∙◌, ℕ, zero, suc, ◌+◌, ◌*◌, ◌⊎◌, inl, inr, Bool, true, false, List, [], ◌∷◌, ◌++◌, Option, Some, None, is_some, slice_get, slice_set}
+use Rattle.std.proofs.Common.{◌≡◌, refl, ap, ◌∙◌, ℕ, zero, suc, ◌⊎◌, inl, inr, true, List, [], ◌∷◌, ◌++◌, Option, Some, None, is_some, slice_get, slice_set}
 use Rattle.std.specs.Option.{option_map}
 use Rattle.c_tree.specs.declared.typed.types.Base.{Base}
 use Rattle.c_tree.specs.declared.typed.types.Base.TheVariants as base
-use Rattle.c_tree.specs.declared.typed.types.Derived.{Derived, Row_of-CType}
+use Rattle.c_tree.specs.declared.typed.types.Derived.{Derived}
 use Rattle.c_tree.specs.declared.typed.types.Derived.TheVariants as derived
 use Rattle.c_tree.specs.declared.typed.types.CType.{CType, out-CType}
 use Rattle.c_layout.specs.declared.tags.StructLayout.{StructLayout}
-use Rattle.c_layout.specs.Tags.{Structs, layout_of, told}
-use Rattle.c_layout.specs.Sizes.{capped_size, sized, aligned, base_size, base_alignment, derived_size, derived_alignment, size_of, alignment_of, is_complete, is_complete_by}
+use Rattle.c_layout.specs.Tags.{Structs, layout_of}
+use Rattle.c_layout.specs.Sizes.{capped_size, sized, aligned, base_size, base_alignment, derived_size, derived_alignment, is_complete, is_complete_by}
 use Rattle.c_layout.specs.Laws.{KeepsLayouts, Measures}
 use Rattle.c_layout.proofs.Completeness.{sized-complete, aligned-complete, base_size-complete, base_alignment-complete}
 

@@ -1,5 +1,5 @@
 -- Tests that hold of each element of a list.
-use Rattle.std.proofs.Common.{◌≡◌, refl, sym, ap, ◌∙◌, ℕ, zero, suc, Bool, true, false, ◌&&◌, List, [], ◌∷◌, Option, Some, None, slice_get, slice_set}
+use Rattle.std.proofs.Common.{◌≡◌, refl, sym, ap, ◌∙◌, ℕ, zero, suc, Bool, true, false, ◌&&◌, List, [], ◌∷◌, Some, slice_get, slice_set}
 use Rattle.std.specs.List.{list_all}
 
 pub and-left : (a b : Bool) → (a && b) ≡ true → a ≡ true

@@ -1,11 +1,11 @@
 -- One member more, and offsets that are capped at each member.
-use Rattle.std.proofs.Common.{◌≡◌, refl, sym, ap, ◌∙◌, ℕ, zero, suc, ◌+◌, ◌-◌, ◌%◌, ◌^◌, ◌<◌, ◌≤◌, ◌⊎◌, inl, inr, min, max, Bool, true, false, List, [], ◌∷◌, ◌++◌, length, All, arith, append_assoc}
+use Rattle.std.proofs.Common.{◌≡◌, refl, sym, ap, ◌∙◌, ℕ, zero, suc, ◌+◌, ◌-◌, ◌^◌, ◌<◌, ◌≤◌, ◌⊎◌, inl, inr, min, max, true, List, [], ◌∷◌, ◌++◌, All, arith}
 use Rattle.std.proofs.lemmas.Bool.{cases_lt}
 use Rattle.std.proofs.lemmas.List.Elements.{All-head, All-tail}
 use Rattle.c_layout.specs.declared.tags.MemberLayout.{MemberLayout}
 use Rattle.c_layout.specs.Tags.{Structs, is_alignment}
 use Rattle.c_layout.specs.Sizes.{capped}
-use Rattle.c_layout.specs.Structures.{Declared, bytes_of, strictness_of, next_multiple, start_behind, end_behind, end_of, placed, strictest}
+use Rattle.c_layout.specs.Structures.{Declared, strictness_of, next_multiple, start_behind, end_behind, end_of, placed, strictest}
 use Rattle.c_layout.proofs.Caps.{capped_low, capped_high}
 
 pub end_of-more : (tags : Structs) (e : ℕ) (ms : List Declared) (m : Declared) →

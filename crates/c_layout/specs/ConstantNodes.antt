@@ -1,5 +1,5 @@
 -- What Constants says of each kind of node of a typed tree, one equation a kind.
-use Rattle.std.specs.Prelude.{◌≡◌, ℕ, Bool, true, false, ◌&&◌, List, map, Option, None}
+use Rattle.std.specs.Prelude.{◌≡◌, ℕ, Bool, false, ◌&&◌, List, map, Option, None}
 use Rattle.std.proofs.Common.{ap, sym, ◌∙◌}
 use Rattle.c_tree.specs.declared.typed.operator.Arithmetic.{Arithmetic}
 use Rattle.c_tree.specs.declared.typed.operator.Primary.{Primary}
@@ -11,7 +11,7 @@ use Rattle.c_tree.specs.declared.typed.expression.Step.{Step, roll-Step}
 use Rattle.c_tree.specs.declared.typed.expression.Step.TheVariants as step
 use Rattle.c_tree.specs.declared.typed.expression.Target.{Target}
 use Rattle.c_tree.specs.declared.typed.expression.Arm.{Arm, out-Arm, roll-Arm, roll-out-Arm}
-use Rattle.c_tree.specs.declared.typed.expression.Step.TheOpen.{Step-F, TExpr-F, Target-F, Arm-F}
+use Rattle.c_tree.specs.declared.typed.expression.Step.TheOpen.{Step-F, TExpr-F, Arm-F}
 use Rattle.c_tree.specs.declared.typed.expression.Step.TheFolds.{fold-roll-Step, fold-roll-TExpr, fold-roll-Arm, map-Step, map-TExpr, map-Arm}
 use Rattle.c_layout.specs.Constants.{step_form, arm_form, target_form, expression_form, has_constant_form, step_has_form, target_has_form, arm_has_form, StepValue, ArmValue, step_number, arm_number, target_number, expression_number, number_of, step_number_of, target_number_of, arm_number_of}
 

@@ -1,5 +1,5 @@
 -- Closed examples, computed. The numbers are what gcc 12 tells with -m32 -funsigned-char.
-use Rattle.std.specs.Prelude.{◌≡◌, ℕ, ◌-◌, ◌*◌, ◌^◌, false, List, [], ◌∷◌, map, Option, Some, None, refl}
+use Rattle.std.specs.Prelude.{◌≡◌, ℕ, ◌-◌, ◌^◌, false, List, [], ◌∷◌, map, Some, None, refl}
 use Rattle.c_tree.specs.declared.typed.types.Base.{Base}
 use Rattle.c_tree.specs.declared.typed.types.Base.TheVariants as base
 use Rattle.c_tree.specs.declared.typed.types.Derived.{Derived}

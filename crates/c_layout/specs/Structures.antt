@@ -1,7 +1,7 @@
 -- Where the members of a structure lie (C11 6.7.2.1p15, p17): in the order of their declarations, each at the next multiple of
 -- its alignment. A structure is aligned as the strictest of its members, and its size is a multiple of that (the profile:
 -- the ABI ilp32, without bit-fields).
-use Rattle.std.specs.Prelude.{ℕ, ◌+◌, ◌-◌, ◌%◌, max, nat_eq, Bool, List, [], ◌∷◌, Option, Some, None, unwrap_or, find}
+use Rattle.std.specs.Prelude.{ℕ, ◌+◌, ◌-◌, ◌%◌, max, nat_eq, Bool, List, [], ◌∷◌, Option, unwrap_or, find}
 use Rattle.std.specs.Option.{option_map, option_and_then}
 use Rattle.std.specs.Cmp.Lexicographic.{pointwise}
 use Rattle.c_tree.specs.declared.typed.types.CType.{CType}

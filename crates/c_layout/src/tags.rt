@@ -1,3 +1,6 @@
+//! What is known of each tag: a structure with its members and their places (C11 6.7.2.1), or an enumerated type.
+//! A table of rows by number; nothing walks a tree here.
+
 ghost use Rattle.std.specs.Prelude.{◌≡◌, ◌++◌, ◌∷◌, [], List, length, slice_get, slice_set, true, IfOk, OnErr, Some, None};
 ghost use Rattle.std.specs.Option.{option_copied};
 ghost use Rattle.c_layout.specs.Tags as spec;

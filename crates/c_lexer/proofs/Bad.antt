@@ -1,5 +1,5 @@
 -- What is wrong in a token stands within it.
-use Rattle.std.proofs.Common.{◌≡◌, ℕ, zero, suc, ◌+◌, ◌-◌, ◌<◌, ◌≤◌, Bool, true, false, ◌&&◌, cond, List, [], ◌∷◌, length, take, drop, Option, Some, None, refl, sym, ap, ◌∙◌, subst, arith, length-drop, length-take}
+use Rattle.std.proofs.Common.{ℕ, zero, suc, ◌+◌, ◌-◌, ◌<◌, ◌≤◌, Bool, true, false, ◌&&◌, cond, List, [], ◌∷◌, length, take, drop, Option, Some, None, arith, length-drop, length-take}
 use Rattle.std.specs.Prelude.{IfSome, nat_lt}
 use Rattle.c_tree.specs.declared.token.Keyword.{Keyword}
 use Rattle.c_tree.specs.declared.refusal.Feature.{Feature}
@@ -17,7 +17,7 @@ use Rattle.c_lexer.specs.declared.reading.Reading.{Reading}
 use Rattle.c_lexer.specs.declared.reading.Reading.TheVariants.{Bad, LeftOut, Token}
 use Rattle.c_lexer.specs.Fronts.{Text, is_empty}
 use Rattle.c_lexer.specs.Names.{keyword_of}
-use Rattle.c_lexer.specs.Numbers.{Constant, constant_of, type_of, is_floating, reading_of_type, reading_of_constant, reading_by, reading_of_number}
+use Rattle.c_lexer.specs.Numbers.{Constant, constant_of, type_of, is_floating, reading_of_type, reading_by, reading_of_number}
 use Rattle.c_lexer.specs.Literals.{is_single_quote, element_of, elements_from, first_bad, has_universal, values, reading_of_character, reading_of_values, reading_of_elements, elements_of, reading_of_opened}
 use Rattle.c_lexer.specs.Features.{feature_of_keyword, feature_of_punctuator}
 use Rattle.c_lexer.specs.Lexemes.{left_out_or, reading_of_word}

@@ -1,5 +1,5 @@
 -- A comment and a literal end at one place only, which is where the scanner ends them.
-use Rattle.std.proofs.Common.{◌≡◌, ℕ, zero, suc, ◌+◌, ◌<◌, ◌≤◌, Bool, true, false, not, ◌&&◌, cond, eqb, List, [], ◌∷◌, length, take, Option, Some, None, refl, sym, ap, ◌∙◌, subst, arith}
+use Rattle.std.proofs.Common.{◌≡◌, ℕ, zero, suc, ◌+◌, ◌≤◌, Bool, true, false, not, ◌&&◌, cond, eqb, [], ◌∷◌, length, take, Option, Some, None, refl, sym, ap, ◌∙◌, subst, arith}
 use Rattle.std.proofs.lemmas.Bool.{and_right, both_ways, eq-eqb, ne_eqb, eqb-true, eqb-false}
 use Rattle.c_lexer.specs.Fronts.{Text, is_empty}
 use Rattle.c_lexer.specs.WhiteSpace.{is_newline, ends_comment}

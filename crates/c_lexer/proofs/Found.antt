@@ -1,10 +1,10 @@
 -- The token that the scanner finds is the longest in front, and is read by its form.
-use Rattle.std.proofs.Common.{◌≡◌, ℕ, zero, suc, ◌+◌, ◌<◌, ◌≤◌, Bool, true, false, ◌&&◌, ◌||◌, cond, eqb, List, [], ◌∷◌, length, take, drop, Option, Some, None, ◌⊎◌, inl, inr, refl, sym, ap, ◌∙◌, subst, arith}
-use Rattle.std.specs.Prelude.{is_some, nat_eq}
+use Rattle.std.proofs.Common.{◌≡◌, ℕ, zero, suc, ◌+◌, ◌<◌, ◌≤◌, Bool, true, false, ◌&&◌, ◌||◌, cond, eqb, [], ◌∷◌, length, take, drop, Option, Some, None, ◌⊎◌, inl, inr, refl, sym, ap, ◌∙◌, subst, arith}
+use Rattle.std.specs.Prelude.{is_some}
 use Rattle.std.specs.Char.{is_ascii_digit}
-use Rattle.std.specs.List.{list_all, prefix_len, starts_with}
+use Rattle.std.specs.List.{list_all, prefix_len}
 use Rattle.std.specs.Option.{option_map}
-use Rattle.std.proofs.lemmas.Bool.{and_from, and_left, and_right, and_parts, or_from, or_left, or_right, eqb-true, eq-eqb, ne_eqb, both_ways, cond-true, cond-false}
+use Rattle.std.proofs.lemmas.Bool.{and_from, and_left, and_right, or_from, or_left, or_right, eq-eqb, ne_eqb, both_ways, cond-true, cond-false}
 use Rattle.std.proofs.lemmas.List.Sums.{prefix_len-le-length}
 use Rattle.c_tree.specs.declared.token.Punct.{Punct}
 use Rattle.c_lexer.specs.declared.lexeme.Form.{Form}
@@ -18,14 +18,14 @@ use Rattle.c_lexer.specs.Literals.{opening_of, is_literal, reading_of_literal, r
 use Rattle.c_lexer.specs.Punctuators.{punctuator_of}
 use Rattle.c_lexer.specs.Lexemes.{is_lexeme, reading_of_word, reading_of_punctuator, reading_of}
 use Rattle.c_lexer.specs.Tokens.{is_unclosed}
-use Rattle.c_lexer.specs.Scan.{length_or_none, closing_len, number_len, punctuator_in, literal_lexeme, number_lexeme, unquoted_lexeme, lexeme_by, lexeme, reading_as}
+use Rattle.c_lexer.specs.Scan.{closing_len, number_len, punctuator_in, number_lexeme, lexeme_by, lexeme, reading_as}
 use Rattle.c_lexer.proofs.Longest.{longest_is, longest_same}
 use Rattle.c_lexer.proofs.Runs.{list_all_front, list_all_beyond}
 use Rattle.c_lexer.proofs.Classes.{letter_no_digit, letter_no_point, letter_no_mark, letter_no_slash}
 use Rattle.c_lexer.proofs.Numerals.{number_len_within, number_here, number_beyond, number_no_letter, number_no_slash, number_no_mark, no_number_front}
 use Rattle.c_lexer.proofs.Openings.{no_literal_front, Opened, opened, no_number_by, no_comment_by}
 use Rattle.c_lexer.proofs.Quoted.{Quoted, quoted}
-use Rattle.c_lexer.proofs.Marks.{is_mark, mark_length, IsMarkOf, IsFound, Marked, marked}
+use Rattle.c_lexer.proofs.Marks.{is_mark, Marked, marked}
 
 -- ---- what is found
 

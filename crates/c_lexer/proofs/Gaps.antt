@@ -1,8 +1,8 @@
 -- What stands between tokens has the length that the scanner finds.
-use Rattle.std.proofs.Common.{◌≡◌, ℕ, zero, suc, ◌+◌, ◌<◌, ◌≤◌, Bool, true, false, not, ◌&&◌, ◌||◌, cond, eqb, List, [], ◌∷◌, length, take, drop, Option, Some, None, refl, sym, ap, ◌∙◌, subst, ⊎_elim, arith}
+use Rattle.std.proofs.Common.{◌≡◌, ℕ, zero, suc, ◌+◌, ◌<◌, ◌≤◌, Bool, true, false, not, ◌&&◌, ◌||◌, cond, eqb, [], ◌∷◌, length, take, drop, Option, Some, None, refl, sym, ap, ◌∙◌, subst, ⊎_elim, arith}
 use Rattle.std.specs.Prelude.{nat_eq, IfSome}
-use Rattle.std.specs.List.{starts_with, prefix_len}
-use Rattle.std.proofs.lemmas.Bool.{and_from, and_left, and_right, and_parts, and_cases, or_from, or_left, or_right, both_ways, eqb-true, eqb-false, eq-eqb, ne_eqb, cond-true, cond-false, not_from_false}
+use Rattle.std.specs.List.{starts_with}
+use Rattle.std.proofs.lemmas.Bool.{and_from, and_left, and_right, and_parts, and_cases, or_from, or_left, or_right, both_ways, eqb-true, eqb-false, eq-eqb, ne_eqb, cond-true, not_from_false}
 use Rattle.std.proofs.lemmas.List.Sums.{prefix_len-le-length}
 use Rattle.c_lexer.specs.Fronts.{Text, longest}
 use Rattle.c_lexer.specs.WhiteSpace.{is_newline, is_white_space, is_space, is_within_line, is_line_comment, opens_comment, ends_comment, is_block_comment, opens_marker, is_marker_line, is_gap}

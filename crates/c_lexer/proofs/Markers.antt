@@ -1,13 +1,13 @@
 -- A marker line is told by its own line, and by no shorter front of it than its beginning.
-use Rattle.std.proofs.Common.{◌≡◌, ℕ, zero, suc, ◌+◌, ◌<◌, ◌≤◌, Bool, true, false, not, ◌&&◌, ◌||◌, cond, eqb, ◌==◌, List, [], ◌∷◌, ◌++◌, length, take, drop, refl, ◌⊎◌, inl, inr, sym, ap, ◌∙◌, subst, ⊎_elim, arith}
-use Rattle.std.proofs.lemmas.Bool.{and_from, and_left, and_right, and_parts, false≢true, eqb-true, eq-eqb, ne_eqb, not-true, both_ways, false_from_ne_true, or_left, or_right, or_cases}
+use Rattle.std.proofs.Common.{◌≡◌, ℕ, Bool, true, false, not, ◌&&◌, ◌||◌, cond, eqb, ◌==◌, [], ◌∷◌, ◌++◌, take, drop, refl, ◌⊎◌, inl, inr, sym, ap, ◌∙◌, subst, ⊎_elim, arith}
+use Rattle.std.proofs.lemmas.Bool.{and_from, and_left, and_parts, false≢true, eqb-true, eq-eqb, ne_eqb, not-true, both_ways, false_from_ne_true, or_left, or_right, or_cases}
 use Rattle.std.proofs.lemmas.List.{take-append-drop}
 use Rattle.std.proofs.lemmas.List.Sums.{take_while-cons}
 use Rattle.std.specs.Prelude.{nat_eq}
 use Rattle.std.specs.Char.{is_ascii_digit}
-use Rattle.std.specs.List.{list_all, prefix_len, starts_with}
+use Rattle.std.specs.List.{list_all, starts_with}
 use Rattle.c_lexer.specs.Fronts.{Text, begins_with}
-use Rattle.c_lexer.specs.WhiteSpace.{is_newline, is_within_line, is_blank, past_blanks, begins_marker, opens_marker}
+use Rattle.c_lexer.specs.WhiteSpace.{is_newline, is_blank, past_blanks, begins_marker, opens_marker}
 use Rattle.c_lexer.specs.Scan.{line_len}
 use Rattle.c_lexer.proofs.Runs.{begins_with_grows, starts_with_grows}
 

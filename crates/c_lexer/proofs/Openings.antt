@@ -1,15 +1,15 @@
 -- A literal by its opening: what its fronts are.
-use Rattle.std.proofs.Common.{◌≡◌, ℕ, zero, suc, ◌+◌, ◌-◌, ◌<◌, ◌≤◌, Bool, true, false, not, ◌&&◌, ◌||◌, cond, eqb, leb, List, [], ◌∷◌, length, take, drop, Option, Some, None, refl, sym, ap, ◌∙◌, subst, ⊎_elim, arith}
+use Rattle.std.proofs.Common.{◌≡◌, ℕ, zero, suc, ◌<◌, ◌≤◌, Bool, true, false, ◌&&◌, cond, eqb, [], ◌∷◌, length, take, Option, Some, None, refl, sym, ap, ◌∙◌, subst, ⊎_elim, arith}
 use Rattle.std.specs.Prelude.{is_some, nat_eq}
 use Rattle.std.specs.Char.{is_ascii_digit}
 use Rattle.std.specs.List.{list_all, starts_with}
-use Rattle.std.proofs.lemmas.Bool.{and_left, and_right, and_from, and_parts, and_cases, or_from, eqb-true, eqb-false, ne_eqb, cond-true, cond-false, both_ways}
+use Rattle.std.proofs.lemmas.Bool.{and_left, and_right, and_parts, and_cases, or_from, eqb-true, eqb-false, ne_eqb, cond-true, cond-false, both_ways}
 use Rattle.c_lexer.specs.declared.literal.Opening.{Opening}
 use Rattle.c_lexer.specs.Fronts.{Text, begins_with}
 use Rattle.c_lexer.specs.WhiteSpace.{is_newline, opens_comment}
 use Rattle.c_lexer.specs.Names.{is_letter, is_word, is_name}
 use Rattle.c_lexer.specs.Numbers.{is_point, begins_number, all_go_on, is_number}
-use Rattle.c_lexer.specs.Literals.{is_single_quote, is_double_quote, is_quote, is_prefix, opens, opening_of, closes, is_closed, is_literal}
+use Rattle.c_lexer.specs.Literals.{is_double_quote, is_quote, is_prefix, opens, opening_of, is_closed, is_literal}
 use Rattle.c_lexer.specs.Punctuators.{punctuator_of}
 use Rattle.c_lexer.proofs.Classes.{prefix_letter, quote_no_letter, quote_no_word, quote_no_digit, quote_no_point, quote_no_mark, quote_no_newline, quote_no_slash, letter_no_digit, letter_no_point, letter_no_mark, letter_no_slash}
 

@@ -1,11 +1,9 @@
 -- A source is taken piece by piece: what is kept and what is left give one outcome.
-use Rattle.std.proofs.Common.{◌≡◌, ℕ, zero, suc, ◌+◌, ◌-◌, ◌<◌, ◌≤◌, Bool, true, false, ◌&&◌, ◌||◌, eqb, List, [], ◌∷◌, ◌++◌, length, take, drop, Option, Some, None, Result, Ok, Err, ◌⊎◌, inl, inr, ⊎_elim, refl, sym, ap, ◌∙◌, subst, arith, append_assoc}
+use Rattle.std.proofs.Common.{◌≡◌, ℕ, zero, suc, ◌-◌, ◌<◌, ◌≤◌, Bool, true, false, eqb, List, [], ◌∷◌, ◌++◌, length, take, drop, Option, Some, None, Result, Ok, Err, ⊎_elim, refl, sym, ap, ◌∙◌, subst, arith, append_assoc}
 use Rattle.std.specs.Prelude.{IfOk, IfErr}
-use Rattle.std.specs.Option.{option_or, option_map}
+use Rattle.std.specs.Option.{option_or}
 use Rattle.std.proofs.lemmas.List.{append-nil}
-use Rattle.c_tree.specs.declared.refusal.Feature.{Feature}
 use Rattle.c_tree.specs.declared.token.Pos.{Pos}
-use Rattle.c_tree.specs.declared.token.Token.{Token}
 use Rattle.c_tree.specs.declared.token.Tokens.{Tokens}
 use Rattle.c_lexer.specs.declared.fault.LexFault.{LexFault}
 use Rattle.c_lexer.specs.declared.fault.LexFault.TheVariants as fault
@@ -15,7 +13,6 @@ use Rattle.c_lexer.specs.declared.lexer.Reader.{Reader}
 use Rattle.c_lexer.specs.declared.reading.Reading.{Reading}
 use Rattle.c_lexer.specs.Features.{has_long, feature_of}
 use Rattle.c_lexer.specs.Fronts.{Text, longest}
-use Rattle.c_lexer.specs.WhiteSpace.{is_gap}
 use Rattle.c_lexer.specs.Lexemes.{is_lexeme, reading_of}
 use Rattle.c_lexer.specs.Tokens.{start, place_after_byte, place_after, Front, is_unclosed, front_by, front_of, Piece, piece_of, length_of, pieces_from, bad_place, first_bad, placed, first_left_out, token_of, tokens_of_pieces, outcome, tokens_of, Refuses}
 use Rattle.c_lexer.specs.Scan.{gap_len, lexeme, reading_as, long_after, left_out_in, Keeps, IsFaultOf, outcome_from, Advances}

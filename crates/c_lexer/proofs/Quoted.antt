@@ -1,12 +1,12 @@
 -- The longest literal in front.
-use Rattle.std.proofs.Common.{◌≡◌, ℕ, zero, suc, ◌+◌, ◌-◌, ◌<◌, ◌≤◌, Bool, true, false, not, ◌&&◌, cond, eqb, List, [], ◌∷◌, length, take, drop, Option, Some, None, refl, sym, ap, ◌∙◌, subst, ⊎_elim, arith, length-drop}
+use Rattle.std.proofs.Common.{◌≡◌, ℕ, suc, ◌+◌, ◌-◌, ◌<◌, ◌≤◌, Bool, true, false, not, ◌&&◌, cond, eqb, [], ◌∷◌, length, take, drop, Option, Some, None, refl, ap, ◌∙◌, subst, ⊎_elim, arith, length-drop}
 use Rattle.std.specs.Prelude.{IfSome}
 use Rattle.std.proofs.lemmas.Bool.{eq-eqb, ne_eqb, cases_lt}
 use Rattle.std.proofs.lemmas.List.{drop-take}
 use Rattle.c_lexer.specs.declared.literal.Opening.{Opening}
 use Rattle.c_lexer.specs.Fronts.{Text, longest}
 use Rattle.c_lexer.specs.WhiteSpace.{is_newline}
-use Rattle.c_lexer.specs.Literals.{is_backslash, closes, is_closed, opening_of, is_literal}
+use Rattle.c_lexer.specs.Literals.{is_backslash, closes, is_closed, is_literal}
 use Rattle.c_lexer.specs.Scan.{beyond, closing_len, length_or_none}
 use Rattle.c_lexer.proofs.Longest.{longest_is}
 use Rattle.c_lexer.proofs.Closings.{is_at, closing_at}

@@ -1,5 +1,5 @@
 -- The tokens by their spelling (C11 6.4), and what each is read as.
-use Rattle.std.specs.Prelude.{ℕ, Bool, false, ◌&&◌, ◌||◌, ◌==◌, is_some, if◌then◌else◌, Option, Some, None}
+use Rattle.std.specs.Prelude.{Bool, ◌||◌, is_some, if◌then◌else◌, Option, Some, None}
 use Rattle.c_tree.specs.declared.refusal.Feature.{Feature}
 use Rattle.c_tree.specs.declared.token.Keyword.{Keyword}
 use Rattle.c_tree.specs.declared.token.Punct.{Punct}

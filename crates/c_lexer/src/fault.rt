@@ -1,3 +1,6 @@
+//! Why a source has no tokens (C11 6.4): the fault that `lex` answers with, and its place.
+//! Want of memory is one of them.
+
 use c_tree::{Feature, Pos};
 use std::alloc::{AllocError, AllocFailed};
 use thiserror::Error;

@@ -1,3 +1,6 @@
+//! What may stand between tokens (C11 5.1.1.2p3, 6.4p3): white space, comments, and the lines that a preprocessor leaves.
+//! Each function tells how many bytes in front belong to it.
+
 ghost use Rattle.std.specs.Prelude.{◌≡◌, ◌≤◌, ◌+◌, length, IfSome, false};
 ghost use Rattle.c_lexer.specs.Scan as scan;
 ghost use Rattle.c_lexer.specs.WhiteSpace as spec;

@@ -1,3 +1,6 @@
+//! Laws on the definitions of this crate, as contracts of functions that do nothing.
+//! So a proof that stands in `proofs/` alone is asked for by the check.
+
 ghost use Rattle.std.specs.Prelude.{Bool};
 ghost use Rattle.c_lexer.specs.Fronts.{Text, longest, IsLongest};
 

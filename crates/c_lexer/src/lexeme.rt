@@ -1,3 +1,6 @@
+//! The longest token in front of some bytes (C11 6.4p4), with its form and its length.
+//! What the token then is read as is in `reading.rt`.
+
 ghost use Rattle.std.specs.Prelude.{◌≡◌, ◌≤◌, ◌<◌, length, IfOk, IfSome};
 ghost use Rattle.c_lexer.specs.Scan as scan;
 ghost use Rattle.c_lexer.specs.WhiteSpace.{opens_comment};

@@ -1,3 +1,6 @@
+//! `lex`: one walk over the bytes of a source that gives its tokens with their places (C11 5.1.1.2, 6.4).
+//! Here stand what it keeps on its way and the order in which faults are told.
+
 ghost use Rattle.std.specs.Prelude.{◌≡◌, ◌≤◌, ◌<◌, ◌+◌, ◌-◌, ◌^◌, ◌==◌, [], length, false, None, Some, IfOk, IfErr, OnOk};
 ghost use Rattle.c_tree.specs.declared.token.Pos.{Pos};
 ghost use Rattle.std.specs.Option.{option_or};

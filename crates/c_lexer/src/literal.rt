@@ -1,3 +1,6 @@
+//! Character constants and string literals (C11 6.4.4.4, 6.4.5): where one ends, and the values of its elements.
+//! Adjacent strings stay apart here; later layers join them.
+
 ghost use Rattle.std.specs.Prelude.{◌≡◌, ◌≤◌, ◌<◌, ◌+◌, ◌^◌, false, length, IfOk, IfSome};
 ghost use Rattle.std.specs.Str.Parse.{digits_value};
 ghost use Rattle.c_lexer.specs.Literals as spec;

@@ -1,3 +1,6 @@
+//! Keywords and names (C11 6.4.1, 6.4.2): which bytes belong to a word, and which word is a keyword.
+//! The keywords are one table, by their spelling.
+
 ghost use Rattle.std.specs.Prelude.{◌≡◌, ◌≤◌, length, map};
 ghost use Rattle.std.specs.List.{prefix_len};
 ghost use Rattle.c_lexer.specs.Fronts.{lookup};

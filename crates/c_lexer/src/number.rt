@@ -1,3 +1,6 @@
+//! Preprocessing numbers and integer constants (C11 6.4.8, 6.4.4.1): which bytes belong to one, its value and its type.
+//! The types that a suffix allows are tables, in the order of their ranks.
+
 ghost use Rattle.std.specs.Prelude.{◌≡◌, ◌≤◌, ◌<◌, ◌^◌, ◌+◌, length, IfSome, SomeIff, IsTrue};
 ghost use Rattle.std.specs.Char.{digit_value};
 ghost use Rattle.std.specs.List.{list_any};

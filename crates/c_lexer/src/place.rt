@@ -1,3 +1,6 @@
+//! Places in a source: the line and the column that come behind some bytes, both counted from 1.
+//! Faults of all later layers are told by these places.
+
 ghost use Rattle.std.specs.Prelude.{◌≡◌, ◌≤◌, ◌<◌, ◌+◌, ◌^◌, length};
 ghost use Rattle.c_lexer.specs.Tokens as spec;
 

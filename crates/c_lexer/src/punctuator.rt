@@ -1,3 +1,6 @@
+//! Punctuators (C11 6.4.6; the profile leaves digraphs out): the longest one in front.
+//! One table for each length.
+
 ghost use Rattle.std.specs.Prelude.{◌≡◌, ◌≤◌, ◌∷◌, [], length, IfSome};
 ghost use Rattle.c_lexer.specs.Scan as scan;
 ghost use Rattle.c_lexer.specs.Punctuators as spec;

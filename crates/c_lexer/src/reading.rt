@@ -1,3 +1,6 @@
+//! What the bytes of a token are read as: a token of the profile, one of a feature that the profile leaves out, or none.
+//! Words, numbers and literals go to the files that read them.
+
 ghost use Rattle.std.specs.Prelude.{◌≡◌, IfOk};
 ghost use Rattle.c_lexer.specs.Features.{feature_of_keyword};
 ghost use Rattle.c_lexer.specs.Lexemes as spec;

@@ -1,3 +1,6 @@
+//! Declarations and initialisers as trees (C11 6.7, 6.7.9), with the place of each token.
+//! Rows of tokens alone: what they mean is in typing.
+
 use crate::declarator::Declarator;
 use crate::expression::Expr;
 use crate::specifier::Specifier;

@@ -1,3 +1,6 @@
+//! Declarators, parameters and type names as trees (C11 6.7.6, 6.7.7), with the place of each token.
+//! They are read inside out: pointers in front, arrays and parameters behind.
+
 use crate::expression::{Expr, Identifier};
 use crate::specifier::Specifier;
 use crate::token::Pos;

@@ -1,3 +1,6 @@
+//! Expressions as trees (C11 6.5), with the place of each token.
+//! A chain of operators of one level is one node with a list, so that long chains nest no deeper.
+
 use crate::declarator::Declarator;
 use crate::specifier::Specifier;
 use crate::token::{IntKind, Pos, Punct};

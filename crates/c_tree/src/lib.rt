@@ -21,7 +21,7 @@ pub use refusal::{FaultKind, Feature, Refusal};
 pub use specifier::{
     Enumerator, Member, MemberDeclarator, Specifier, Specifiers, Storage, TypeWord,
 };
-pub use spelling::{spell, spell_definition};
+pub use spelling::{definition_tokens, spell};
 pub use statement::{Block, BlockItem, Condition, Else, ForControl, ForHead, IfHead, Stmt};
 pub use token::{IntKind, Keyword, Pos, Punct, Token, TokenKind, Tokens};
 pub use unit::{Definition, External, Unit};

@@ -1,3 +1,6 @@
+//! Why a source is refused: features that the profile leaves out, and the kinds of faults of typing.
+//! Their names are those that the program prints.
+
 use crate::token::Pos;
 
 /// A feature of C11 that the profile leaves out by name.

@@ -1,3 +1,6 @@
+//! Specifiers as trees (C11 6.7.1 to 6.7.4): storage words, type words, qualifiers, structures and enumerations.
+//! Each keeps its place.
+
 use crate::declarator::Declarator;
 use crate::expression::{Expr, Identifier};
 use crate::token::Pos;

@@ -1,11 +1,11 @@
-//! The kinds of the tokens of a tree.
-//!
-//! Each function puts the kinds of one tree's tokens behind those that are there.
+//! The kinds of the tokens of a tree: a walk over it, which gives them one behind the other to a `Taker`.
+//! Each function has one kind of tree.
 
 mod declaration;
 mod statement;
+mod taker;
 mod token;
 mod tree;
 mod unit;
 
-pub use unit::{spell, spell_definition};
+pub use unit::{definition_tokens, spell};

@@ -1,3 +1,6 @@
+//! Statements and blocks as trees (C11 6.8), with the place of each token.
+//! An `if` with its `else if`s is one node with a list, so that long chains nest no deeper.
+
 use crate::declaration::Declaration;
 use crate::expression::Expr;
 use crate::token::Pos;

@@ -1,3 +1,6 @@
+//! Tokens (C11 6.4): keywords, names, constants, strings and punctuators, each with its place.
+//! The lexer makes them and the parsers read them.
+
 use word_ops::{Items, Text};
 
 /// A place in a source: its line and the column of a byte in it, both counted from 1.

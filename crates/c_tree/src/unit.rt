@@ -1,3 +1,6 @@
+//! A source as one tree (C11 6.9): its external declarations and function definitions.
+//! The parser of units gives it.
+
 use crate::declaration::Declaration;
 use crate::declarator::Declarator;
 use crate::specifier::Specifier;

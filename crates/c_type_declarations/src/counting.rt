@@ -2,9 +2,7 @@
 //! before those that are declared behind it.
 
 ghost use Rattle.std.specs.Prelude.{◌≡◌, [], ◌∷◌, IfOk, OnOk, if◌then◌else◌, map, length};
-ghost use Rattle.std.specs.List.{list_any};
 ghost use Rattle.std.specs.Option.{option_copied};
-ghost use Rattle.std.specs.Str.{bytes_eq};
 ghost use Rattle.c_typing.specs.Declarations as spec;
 ghost use Rattle.c_typing.specs.OfStatements as statements;
 ghost use Rattle.c_typing.specs.Units as units;
@@ -15,24 +13,25 @@ use crate::declarations::{is_extern, is_static, is_typedef};
 use c_tree::{Declaration, Declarator, InitDeclarator, Specifier, Storage};
 use c_type_rules::is_function;
 use c_type_trees::{makes, name};
-use c_type_walk::copied_text;
-use c_typing::Meaning;
+use c_type_walk::{copied_text, meaning_of};
+use c_typing::{Meaning, State};
+use indexed_list::IndexedList;
 use scope_map::ScopeMap;
 use std::alloc::Global;
-use word_ops::{Items, Memory, Text};
+use word_ops::{Memory, Text};
 
 /// Which typedef names are names of function types (C11 6.7.8): those that are visible where a count begins, and those
 /// that the declarations counted so far have declared since.
 #[derive(Drop)]
 pub struct FunctionNames<'a> {
-    visible: &'a ScopeMap<Text, Meaning>,
+    visible: Option<&'a State>,
     since: ScopeMap<Text, bool>,
 }
 
 impl<'a> FunctionNames<'a> {
-    /// Those that are visible. Takes no memory.
-    pub fn new(alloc: Global, visible: &'a ScopeMap<Text, Meaning>) -> FunctionNames<'a>
-        ensures { named result ≡ names_in visible.now }
+    /// Those that are visible in a state, or none. Takes no memory.
+    pub fn new(alloc: Global, visible: Option<&'a State>) -> FunctionNames<'a>
+        ensures { named result ≡ names_in (option_copied visible.entry) }
     {
         FunctionNames {
             visible,
@@ -46,7 +45,17 @@ impl<'a> FunctionNames<'a> {
     {
         match self.since.get(name) {
             Some(is_function) => *is_function,
-            None => is_function_name(self.visible.get(name)),
+            None => self.sees(name),
+        }
+    }
+
+    /// Whether a visible name is one of a function type.
+    fn sees(&self, name: &Text) -> bool
+        ensures { result ≡ names_in (option_copied self.now.visible) name.now }
+    {
+        match self.visible {
+            Some(state) => is_function_name(meaning_of(state, name)),
+            None => false,
         }
     }
 
@@ -229,7 +238,7 @@ pub fn automatic_count(
 pub fn defined_objects(
     alloc: Global,
     names: &mut FunctionNames<'_>,
-    all: &mut Items<Text>,
+    all: &mut IndexedList<Text>,
     tree: &Declaration,
 ) -> Result<(), Memory>
     ensures all { OnOk result (all.new ≡ units.with_new all.old (spec.defined_objects (named names.old) (spec.declared_of tree.now)).0) }
@@ -248,7 +257,7 @@ pub fn defined_objects(
 /// Puts the names of objects behind those that are there already: of those with an initialiser alone, where that is told.
 fn add_objects(
     alloc: Global,
-    all: &mut Items<Text>,
+    all: &mut IndexedList<Text>,
     by_specifiers: bool,
     started_alone: bool,
     list: &[InitDeclarator],
@@ -265,16 +274,15 @@ fn add_objects(
 }
 
 /// Puts the name of a declarator behind those that are there already, unless it is one of them.
-fn add_new(alloc: Global, all: &mut Items<Text>, tree: &Declarator) -> Result<(), Memory>
+fn add_new(alloc: Global, all: &mut IndexedList<Text>, tree: &Declarator) -> Result<(), Memory>
     ensures { OnOk result (all.new ≡ units.with_new all.old (spec.name_of (declarator_typing tree.now).name ∷ [])) }
 {
     let text = name_text(alloc, tree)?;
-    if is_among(all.as_slice(), &text) {
+    if all.contains(&text) {
         drop(text);
         return Ok(());
     }
-    all.push(text)?;
-    Ok(())
+    all.push(alloc, text)
 }
 
 /// The text of the name of a declarator, which is empty where it has none.
@@ -289,15 +297,4 @@ pub fn name_text(alloc: Global, tree: &Declarator) -> Result<Text, Memory>
         Some(name) => copied_text(alloc, &name.text),
         None => Ok(Text::from_vec(Vec::new(alloc))),
     }
-}
-
-fn is_among(all: &[Text], name: &Text) -> bool
-    ensures { result ≡ list_any (bytes_eq name.now) all.now }
-{
-    for one in all {
-        if *name == *one {
-            return true;
-        }
-    }
-    false
 }

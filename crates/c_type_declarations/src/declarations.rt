@@ -4,6 +4,7 @@
 ghost use Rattle.std.specs.Prelude.{◌≡◌, IfOk, None, Some, false, map, unwrap_or};
 ghost use Rattle.std.specs.Option.{option_copied, option_map};
 ghost use Rattle.c_typing.specs.Declarations as spec;
+ghost use Rattle.c_typing.specs.Declarators as declarators;
 ghost use Rattle.c_type_walk.specs.Walks.{Walks};
 ghost use Rattle.c_typing.specs.Trees.{declarator_typing};
 ghost use Rattle.c_type_declarations.specs.Rows as rows;
@@ -155,7 +156,7 @@ fn start_of(tree: &InitDeclarator) -> Option<&Initialiser>
 }
 
 fn basis_type(alloc: Global, basis: Option<&Basis>) -> Result<Option<CType>, Memory>
-    ensures { IfOk result (λ t. t ≡ option_map spec.basis_type (option_copied basis.entry)) }
+    ensures { IfOk result (λ t. t ≡ option_map declarators.basis_type (option_copied basis.entry)) }
 {
     match basis {
         Some(basis) => Ok(Some(copied(alloc, &basis.ctype)?)),

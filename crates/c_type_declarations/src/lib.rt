@@ -19,7 +19,7 @@ mod static_objects;
 
 pub use counting::{FunctionNames, automatic_count, defined_objects, name_text};
 pub use declarations::declaration_row;
-pub use linkage::{MAIN, is_refused, keep_linkage, tell_linked};
+pub use linkage::{MAIN, linked, linked_faults};
 pub use made::{both, one};
 pub use objects::{is_addressed, object_of, static_object};
 pub use second_declarations::{allows_untyped_linked, is_defined};

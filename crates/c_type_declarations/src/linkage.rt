@@ -75,7 +75,7 @@ fn breaks_library(alloc: Global, name: &Text, defines: bool, ctype: &CType) -> R
 /// # Errors
 ///
 /// `Memory` where memory is wanting.
-pub fn is_refused(
+fn is_refused(
     alloc: Global,
     found: &Found,
     own: Option<&Meaning>,
@@ -118,7 +118,7 @@ fn is_wrong_main(
 /// # Errors
 ///
 /// `Memory` where memory is wanting.
-pub fn tell_linked(
+fn tell_linked(
     alloc: Global,
     found: &mut Found,
     around: &Around<'_>,
@@ -139,7 +139,7 @@ pub fn tell_linked(
 /// # Errors
 ///
 /// `Memory` where memory is wanting.
-pub(crate) fn linked_faults(
+pub fn linked_faults(
     alloc: Global,
     found: &mut Found,
     around: &Around<'_>,
@@ -182,7 +182,7 @@ fn linkage_of(
 /// # Errors
 ///
 /// `Memory` where memory is wanting.
-pub fn keep_linkage(
+fn keep_linkage(
     alloc: Global,
     found: &mut Found,
     name: &Text,
@@ -227,7 +227,7 @@ fn add_linkage(
 /// # Errors
 ///
 /// `Memory` where memory is wanting.
-pub(crate) fn linked(
+pub fn linked(
     alloc: Global,
     found: &mut Found,
     name: &Text,

@@ -86,6 +86,10 @@ pub(crate) fn composed(
 {
     match linkage {
         None => Ok(ctype),
-        Some(linkage) => composite(alloc, ctype, &linkage.ctype),
+        Some(linkage) => {
+            let whole = composite(alloc, &ctype, &linkage.ctype);
+            drop(ctype);
+            whole
+        }
     }
 }

@@ -19,9 +19,9 @@ use c_typing::{Basis, Meaning, Parameter};
 use std::alloc::Global;
 use word_ops::Memory;
 
-/// Whether a storage word is `register`.
+/// Whether a storage word is `register` (C11 6.7.1p6).
 pub fn is_register(storage: Option<Storage>) -> bool
-    ensures { result ≡ trees.is_register storage }
+    ensures { result ≡ spec.is_register storage }
 {
     matches!(storage, Some(Storage::Register))
 }

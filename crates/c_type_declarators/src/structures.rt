@@ -1,13 +1,14 @@
 //! Structures (C11 6.7.2.1).
 //! Rows: a structure begins, and ends with its members, from their names and types.
 
-ghost use Rattle.std.specs.Prelude.{◌≡◌, ◌++◌, [], length, slice_set, nat_lt, true, IfOk, OnOk};
+ghost use Rattle.std.specs.Prelude.{◌≡◌, ◌++◌, ◌∷◌, [], length, slice_set, nat_lt, true, IfOk, OnOk};
 ghost use Rattle.std.specs.List.{list_any};
 ghost use Rattle.std.specs.Option.{option_copied, option_map};
 ghost use Rattle.c_typing.specs.Declarators as spec;
 ghost use Rattle.std.specs.Str.{bytes_eq};
 ghost use Rattle.c_typing.specs.Scopes as scopes;
 ghost use Rattle.c_layout.specs.Tags.{is_alignment};
+ghost use Rattle.c_tree.specs.declared.refusal.FaultKind.TheVariants as kind;
 ghost use Rattle.c_type_walk.specs.Walks.{Walks};
 
 use crate::derivations::{MOST_BYTES, complete_row};
@@ -18,6 +19,7 @@ use c_tree::{FaultKind, Identifier, Pos};
 use c_type_rules::{copied, is_read_only, plain};
 use c_type_walk::{Around, Found, copied_text};
 use c_typing::Tag;
+use indexed_list::IndexedList;
 use std::alloc::Global;
 use word_ops::{Items, Memory, Text};
 
@@ -139,7 +141,7 @@ pub fn members_row(
 ) -> Result<Option<CType>, Memory>
     ensures { Walks (spec.members_row at number members.now) around.now found.old result found.new }
 {
-    if tell_repeated(found, members)? {
+    if tell_repeated(alloc, found, members)? {
         return Ok(None);
     }
     let Some(declared) = as_declared(alloc, members)? else {
@@ -150,25 +152,44 @@ pub fn members_row(
 }
 
 /// Tells of each member whose name stood before (C11 6.2.3p1), and whether there is one.
-fn tell_repeated(found: &mut Found, members: &[(Identifier, Option<CType>)]) -> Result<bool, Memory>
+fn tell_repeated(
+    alloc: Global,
+    found: &mut Found,
+    members: &[(Identifier, Option<CType>)],
+) -> Result<bool, Memory>
     ensures any { IfOk result (λ any. any ≡ nat_lt 0 (length (spec.repeated [] members.now))) }
     ensures faults { OnOk result (found.new.faults ≡ found.old.faults ++ spec.repeated [] members.now) }
     ensures state { found.new.state ≡ found.old.state }
 {
+    let mut seen = IndexedList::new(alloc);
     let mut any = false;
-    for (index, member) in members.iter().enumerate() {
-        let stood = has_member(&members[..index], &member.0.text);
-        found.tell_if(stood, FaultKind::Redeclared, member.0.place)?;
+    for member in members {
+        let Ok(stood) = tell_member(alloc, found, &mut seen, &member.0) else {
+            drop(seen);
+            return Err(Memory);
+        };
         any = any || stood;
     }
+    drop(seen);
     Ok(any)
 }
 
-/// Whether one of these members has this name.
-fn has_member(members: &[(Identifier, Option<CType>)], name: &Text) -> bool
-    ensures { result ≡ list_any (λ m. bytes_eq name.now m.0.text) members.now }
+/// Tells of a member whose name is one of those seen so far, which it is from here on; and whether it was.
+fn tell_member(
+    alloc: Global,
+    found: &mut Found,
+    seen: &mut IndexedList<Text>,
+    name: &Identifier,
+) -> Result<bool, Memory>
+    ensures stood { IfOk result (λ stood. stood ≡ list_any (bytes_eq name.now.text) seen.old) }
+    ensures seen { OnOk result (seen.new ≡ seen.old ++ name.now.text ∷ []) }
+    ensures faults { OnOk result (found.new.faults ≡ found.old.faults ++ scopes.fault_if (list_any (bytes_eq name.now.text) seen.old) kind.Redeclared name.now.place) }
+    ensures state { found.new.state ≡ found.old.state }
 {
-    members.iter().any(|member| *name == member.0.text)
+    let stood = seen.contains(&name.text);
+    found.tell_if(stood, FaultKind::Redeclared, name.place)?;
+    seen.push(alloc, copied_text(alloc, &name.text)?)?;
+    Ok(stood)
 }
 
 /// The members as they are declared, or `None` where a fault stands in one.

@@ -164,7 +164,7 @@ fn object_called(
 ) -> Result<Option<Operand>, Memory>
     ensures { (t : types.Shape) → types.is_function_shape t ≡ false → (args : List spec.Argument) → Walks (spec.linked_call name.now place args t) around.now found.old result found.new }
 {
-    let definition = number_in(around.objects.as_slice(), &name.text)?;
+    let definition = number_in(around.objects, &name.text)?;
     tell_no_body(found, name, definition)?;
     found.tell(around, FaultKind::BadCall, place)
 }
@@ -179,7 +179,7 @@ fn defined_function(
     ensures faults { OnOk result (found.new.faults ≡ found.old.faults ++ spec.no_body name.now (scopes.number_in 0 around.now.functions.now name.now.text)) }
     ensures state { found.new.state ≡ found.old.state }
 {
-    let definition = number_in(around.functions.as_slice(), &name.text)?;
+    let definition = number_in(around.functions, &name.text)?;
     tell_no_body(found, name, definition)?;
     Ok(definition)
 }

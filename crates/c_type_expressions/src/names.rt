@@ -22,6 +22,7 @@ use word_ops::Memory;
 /// # Errors
 ///
 /// `Memory` where memory is wanting.
+#[inline(never)]
 pub fn name_row(
     alloc: Global,
     found: &mut Found,
@@ -78,7 +79,7 @@ fn linked_name(
     if is_function(ctype) {
         return found.tell(around, FaultKind::FunctionUse, name.place);
     }
-    let definition = number_in(around.objects.as_slice(), &name.text)?;
+    let definition = number_in(around.objects, &name.text)?;
     found.tell_if(definition.is_none(), FaultKind::NoBody, name.place)?;
     let number = definition.unwrap_or(0);
     Ok(Some(object(alloc, Form::Place, ctype, Primary::Static(number))?))

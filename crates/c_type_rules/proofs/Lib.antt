@@ -4,6 +4,6 @@ pub mod Derivations
 pub mod Qualified
 pub mod Rows
 pub mod SameTargets
-pub mod Composites
+pub mod WithEach
 pub mod Trees
 pub mod VoidPointers

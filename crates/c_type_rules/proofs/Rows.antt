@@ -1,6 +1,6 @@
 -- Comparisons of the rows of types and derivations
 -- are those of their lists.
-use Rattle.std.proofs.Common.{◌≡◌, ◌≢◌, ◌∙◌, refl, ap, sym, suc, Bool, true, false, ◌&&◌, ◌==◌, List, [], ◌∷◌, length}
+use Rattle.std.proofs.Common.{◌≡◌, ◌≢◌, ◌∙◌, refl, ap, sym, suc, Bool, true, false, ◌&&◌, List, [], ◌∷◌, length}
 use Rattle.c_tree.specs.declared.typed.types.Derived.{Derived, Row_of-CType, end_of-CType, more_of-CType, Row_of-Derived, end_of-Derived, more_of-Derived, items-the_row-CType, items-the_row-Derived, items_hidden-the_row-CType-1, items_shown-the_row-Derived-0}
 use Rattle.c_tree.specs.declared.typed.types.Derived.TheVariants as derived
 use Rattle.c_tree.specs.declared.typed.types.Derived.TheBlock.{hidden-the_row-CType-1, shown-the_row-Derived-0}

@@ -1,8 +1,8 @@
 -- Types that are compatible but for their own qualifiers,
 -- by their shapes.
-use Rattle.std.proofs.Common.{◌≡◌, ◌∙◌, refl, ap, sym, ℕ, Bool, true, false, ◌&&◌, ◌==◌, List, [], ◌∷◌, ◌++◌, Bor}
+use Rattle.std.proofs.Common.{◌≡◌, ◌∙◌, refl, ap, sym, ℕ, Bool, true, false, ◌&&◌, List, [], ◌∷◌, ◌++◌, Bor}
 use Rattle.std.specs.Prelude.{Option, reverse}
-use Rattle.std.proofs.lemmas.List.{reverse-append, reverse-reverse}
+use Rattle.std.proofs.lemmas.List.{reverse-append}
 use Rattle.c_tree.specs.declared.typed.types.Base.{Base}
 use Rattle.c_tree.specs.declared.typed.types.Derived.{Derived}
 use Rattle.c_tree.specs.declared.typed.types.Derived.TheVariants as derived

@@ -1,6 +1,6 @@
 -- A plain pointer to `void`
 -- has one derivation.
-use Rattle.std.proofs.Common.{◌≡◌, ◌≢◌, ◌∙◌, ap, Bool, false, ◌&&◌, ◌==◌, [], ◌∷◌, length}
+use Rattle.std.proofs.Common.{◌≡◌, ◌≢◌, ◌∙◌, ap, Bool, false, ◌&&◌, [], ◌∷◌, length}
 use Rattle.c_tree.specs.declared.typed.types.Derived.TheVariants as derived
 use Rattle.c_tree.specs.declared.typed.types.Base.TheVariants as base
 use Rattle.c_tree.specs.declared.typed.types.CType.{CType, out-CType}

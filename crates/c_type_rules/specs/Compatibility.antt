@@ -1,9 +1,7 @@
 -- The words of `compatibility` for what c_typing says of rows:
--- how types are compared, and what is open.
-use Rattle.std.specs.Prelude.{Bool, true, false, ◌&&◌, List, [], ◌∷◌, Option, Some, None}
+-- how types are compared.
+use Rattle.std.specs.Prelude.{Bool, true, false, ◌&&◌, List, [], ◌∷◌}
 use Rattle.c_tree.specs.declared.typed.types.CType.{CType}
-use Rattle.c_tree.specs.declared.typed.types.Derived.{Derived}
-use Rattle.c_tree.specs.declared.typed.types.Derived.TheVariants as derived
 use Rattle.c_typing.specs.Types as types
 use Rattle.c_type_rules.specs.declared.compatibility.Comparison.{Comparison}
 use Rattle.c_type_rules.specs.declared.compatibility.Comparison.TheVariants as comparison
@@ -17,8 +15,3 @@ abbrev pub all_agree : types.Comparison → List CType → List CType → Bool
 all_agree by [] [] = true
 all_agree by (t ∷ ts) (u ∷ us) = types.agree by t u && all_agree by ts us
 all_agree by _ _ = false
-
--- a derivation is an array without a number of elements
-abbrev pub is_open : Option Derived → Bool
-is_open (Some (derived.Array None)) = true
-is_open _ = false

@@ -3,6 +3,7 @@
 pub mod Shapes
 pub mod Qualifiers
 pub mod Compatibility
+pub mod Composites
 pub mod Constants
 pub mod Values
 pub mod Operators

@@ -6,7 +6,6 @@ ghost use Rattle.c_typing.specs.Operands as operands;
 ghost use Rattle.c_typing.specs.Operators as spec;
 ghost use Rattle.c_type_rules.specs.Shapes.{lent};
 
-use crate::compatibility::composite;
 use crate::copies::copied;
 use crate::kinds::{is_integer, is_pointer, is_void};
 use crate::making::{plain, pointer_to};
@@ -67,7 +66,6 @@ fn chosen_target(alloc: Global, one: LentType, other: LentType) -> Result<CType,
     if one.is_void() || other.is_void() {
         Ok(constant_if(constant, plain(alloc, Base::Void)))
     } else {
-        let whole = composite(alloc, one.copied(alloc)?, &other.copied(alloc)?)?;
-        Ok(constant_if(constant, whole))
+        Ok(constant_if(constant, one.composite(alloc, other)?))
     }
 }

@@ -1,17 +1,14 @@
-//! Which types are compatible or the same, and the composite type of two that are
+//! Which types are compatible or the same
 //! (C11 6.2.7, 6.7.3p10, 6.7.6).
 
-ghost use Rattle.std.specs.Prelude.{◌≡◌, ◌<◌, true, length, slice_get, IfOk};
+ghost use Rattle.std.specs.Prelude.{◌≡◌};
 ghost use Rattle.c_typing.specs.Types as spec;
 ghost use Rattle.c_typing.specs.Conversions as conversions;
 ghost use Rattle.c_type_rules.specs.Shapes.{lent};
-ghost use Rattle.c_type_rules.specs.Compatibility.{compared, all_agree, is_open};
+ghost use Rattle.c_type_rules.specs.Compatibility.{compared, all_agree};
 
-use crate::copies::copied_derivation;
 use crate::shapes::{LentType, TypeShape, lend};
 use c_tree::typed::{Base, CType, Derived};
-use std::alloc::Global;
-use word_ops::{Items, Memory};
 
 /// How two types are compared.
 #[derive(Clone, Copy)]
@@ -64,39 +61,6 @@ pub fn alike(t: &CType, u: &CType) -> bool
     ensures { result ≡ spec.alike t.now u.now }
 {
     lend(t).is_alike(lend(u))
-}
-
-/// The composite type of two compatible types: an array has the number of elements that either tells (C11 6.2.7p3).
-///
-/// # Errors
-///
-/// `Memory` where memory is wanting.
-pub fn composite(alloc: Global, t: CType, u: &CType) -> Result<CType, Memory>
-    ensures { IfOk result (λ r. r ≡ spec.composite t u.now) }
-{
-    let CType {
-        base,
-        constant,
-        mut derived,
-    } = t;
-    for (at, other) in u.derived.as_slice().iter().enumerate() {
-        if is_open_array(&derived, at) {
-            derived.set(at, copied_derivation(alloc, other)?);
-        }
-    }
-    Ok(CType {
-        base,
-        constant,
-        derived,
-    })
-}
-
-/// Whether the derivation at this index is an array without a number of elements.
-fn is_open_array(derived: &Items<Derived>, at: usize) -> bool
-    ensures told { result ≡ is_open (slice_get derived.now at) }
-    ensures within { result ≡ true → at < length derived.now }
-{
-    matches!(derived.get(at), Some(Derived::Array(None)))
 }
 
 #[cycle(same)]

@@ -1,14 +1,16 @@
 //! Rules on types and on operands, without any state.
 //!
 //! Each function computes one definition of `c_typing`, and its contract says which. `shapes` tells what a type is at its
-//! outside and lends what it is derived from; `making`, `copies`, `kinds`, `qualifiers` and `compatibility` make, copy,
-//! test, qualify and compare types. `conversions` has the integer conversions, `operands`, `values`, `constants` and
-//! `assignable` what is asked of operands and done with them, and `operators` and `choice` the operators that take two.
+//! outside and lends what it is derived from; `making`, `copies`, `kinds`, `qualifiers`, `compatibility` and `composites`
+//! make, copy, test, qualify, compare and unite types. `conversions` has the integer conversions, `operands`, `values`,
+//! `constants` and `assignable` what is asked of operands and done with them, and `operators` and `choice` the operators
+//! that take two.
 #![tactic(auto)]
 
 mod assignable;
 mod choice;
 mod compatibility;
+mod composites;
 mod constants;
 mod conversions;
 mod copies;
@@ -24,7 +26,8 @@ mod values;
 
 pub use assignable::is_assignable;
 pub use choice::chosen_by;
-pub use compatibility::{alike, compatible, composite, same_type};
+pub use compatibility::{alike, compatible, same_type};
+pub use composites::composite;
 pub use constants::{constant_in, is_null_constant};
 pub use conversions::{
     base_of_constant, common, conversion_to, integer_rank, is_signed, promoted, scalar_of, sign_of,

@@ -6,3 +6,4 @@ pub mod Owned
 pub mod Counted
 pub mod Rows
 pub mod Turns
+pub mod CaseValues

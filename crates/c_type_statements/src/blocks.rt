@@ -28,7 +28,7 @@ use word_ops::{Items, Memory};
 pub fn count_items(alloc: Global, state: &State, items: &[BlockItem]) -> Result<usize, Memory>
     ensures { IfOk result (λ n. n ≡ spec.count_items (spec.function_names state.now) (map block_item_typing items.now)) }
 {
-    let mut names = FunctionNames::new(alloc, &state.names);
+    let mut names = FunctionNames::new(alloc, Some(state));
     let count = count_behind(alloc, &mut names, items);
     drop(names);
     count
@@ -65,7 +65,7 @@ pub(crate) fn count_declared(
 ) -> Result<usize, Memory>
     ensures { IfOk result (λ n. n ≡ (declarations.automatic_count (spec.function_names found.now.state) (declarations.declared_of tree.now)).0) }
 {
-    let mut names = FunctionNames::new(alloc, &found.state.names);
+    let mut names = FunctionNames::new(alloc, Some(&found.state));
     let count = automatic_count(alloc, &mut names, tree);
     drop(names);
     count

@@ -12,6 +12,7 @@ use c_tree::{Expr, FaultKind, Pos};
 use c_type_declarators::constant_row;
 use c_type_trees::{expr, first_token};
 use c_type_walk::{Around, Found};
+use indexed_list::IndexedList;
 use std::alloc::Global;
 use std::mem;
 use word_ops::{Items, Memory};
@@ -23,7 +24,7 @@ pub(crate) struct Parting {
     labels: Items<Label>,
     body: Items<TStmt>,
     /// the values of all labels so far
-    values: Items<u32>,
+    values: IndexedList<u32>,
     has_default: bool,
 }
 
@@ -36,7 +37,7 @@ impl Parting {
             done: Items::new(alloc),
             labels: Items::new(alloc),
             body: Items::new(alloc),
-            values: Items::new(alloc),
+            values: IndexedList::new(alloc),
             has_default: false,
         }
     }
@@ -81,12 +82,7 @@ impl Parting {
     fn has_value(&self, value: u32) -> bool
         ensures { result ≡ list_any (λ m. m == value) (parting_of self.now).values }
     {
-        for one in self.values.as_slice() {
-            if *one == value {
-                return true;
-            }
-        }
-        false
+        self.values.contains(&value)
     }
 
     /// All parts.
@@ -140,7 +136,7 @@ pub(crate) fn case_row(
         return Ok(false);
     }
     parting.label(alloc, Label::Case(value))?;
-    parting.values.push(value)?;
+    parting.values.push(alloc, value)?;
     Ok(true)
 }
 

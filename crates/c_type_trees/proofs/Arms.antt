@@ -16,10 +16,10 @@ use Rattle.c_typing.specs.declared.declarator.Part.{Part}
 use Rattle.c_typing.specs.Types.{shape}
 use Rattle.c_typing.specs.Scopes.{Walk, offer, ◌>>=◌, asked, both_asked}
 use Rattle.c_typing.specs.Expressions as rows
-use Rattle.c_typing.specs.Declarators.{Expressed, Declaring, Members, declared_type, derive, name_place, struct_row, struct_begun, members_row, tag_place, one_member, member_named, complete_parameter, adjusted, valued_enumerator, nowhere}
+use Rattle.c_typing.specs.Declarators.{Expressed, Declaring, Members, basis_type, declared_type, derive, name_place, struct_row, struct_begun, members_row, tag_place, one_member, member_named, complete_parameter, adjusted, valued_enumerator, nowhere}
 use Rattle.c_typing.specs.Parts.{Suffixing, Indexing, Calling, Membering, Arrowing, Changing}
 use Rattle.c_typing.specs.Trees.{next_typing, next_typing-is, suffix_typing}
-use Rattle.c_typing.specs.OfTrees.{truths_row, logical_row, arguments, suffixes_row, postfix_row, parameter_type, basis_type}
+use Rattle.c_typing.specs.OfTrees.{truths_row, logical_row, arguments, suffixes_row, postfix_row, parameter_type}
 use Rattle.c_type_walk.specs.declared.around.Around.{Around}
 use Rattle.c_type_walk.specs.declared.found.Found.{Found}
 use Rattle.c_type_walk.specs.Walks.{Gave, Walks, fixed}
@@ -130,19 +130,18 @@ parameter_typed d at b c old mid new t r g w =
 
 -- ---- `||` and `&&`
 
-pub logical_walked : (is_or : Bool) (rest : List Next) (x : Next) (first : Option Operand) (done : Option (List TExpr)) (all : Option (List TExpr)) (v : Option Operand) (c : Around) (old mid new : Found)
+pub logical_walked : (is_or : Bool) (rest : List Next) (x : Next) (first : Option Operand) (done : Option (List TExpr)) (all : Option (List TExpr)) (c : Around) (old mid new : Found)
     → Some x ≡ slice_get rest 0 → Gave (first_truth (out-Next x).operator.place first (fixed c) old.state) old mid done
-    → Gave (truths_row (map next_typing rest) done (fixed c) mid.state) mid new all → v ≡ option_map (logical_of is_or) all
-    → Gave (logical_row (logical_tree is_or) first (map next_typing rest) (fixed c) old.state) old new v
-logical_walked is_or rest x first truths all v c old mid new h g w e =
+    → Gave (truths_row (map next_typing rest) done (fixed c) mid.state) mid new all
+    → after (logical_row (logical_tree is_or) first (map next_typing rest)) c old ≡ after (offer (option_map (logical_of is_or) all)) c new
+logical_walked is_or rest x first truths all c old mid new h g w =
     let split = first_is rest x h in
     let walk : Option (List TExpr) → List Next → Walk Operand = λ d ns. logical_rest is_or (map next_typing ns) d in
     let begin : after (logical_row (logical_tree is_or) first (map next_typing (x ∷ split.0))) c old ≡ after (walk truths (x ∷ split.0)) c mid =
     logical_begin is_or first (next_typing x) (map next_typing split.0) truths c old mid (rw (next_typing-is x) g) in
     let begun : after (logical_row (logical_tree is_or) first (map next_typing rest)) c old ≡ after (walk truths rest) c mid =
     subst (λ (ns : List Next). after (logical_row (logical_tree is_or) first (map next_typing ns)) c old ≡ after (walk truths ns) c mid) (sym split.1) begin in
-    done (logical_row (logical_tree is_or) first (map next_typing rest)) c old new v
-    (begun ∙ step (truths_row (map next_typing rest) truths) (λ all. offer (option_map (logical_of is_or) all)) c mid new all w ∙ ap (λ o. after (offer o) c new) (sym e))
+    begun ∙ step (truths_row (map next_typing rest) truths) (λ all. offer (option_map (logical_of is_or) all)) c mid new all w
 
 -- no operator stands behind the first operand
 pub logical_alone : (is_or : Bool) (rest : List Next) (first : Option Operand) (c : Around) (old : Found)

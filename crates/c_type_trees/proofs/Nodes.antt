@@ -19,9 +19,9 @@ use Rattle.c_typing.specs.declared.declarator.Part.{Part}
 use Rattle.c_typing.specs.declared.declarator.Parameter.{Parameter}
 use Rattle.c_typing.specs.Scopes.{Said, Walk, give, offer, ◌>>=◌, asked, both_asked}
 use Rattle.c_typing.specs.Expressions as rows
-use Rattle.c_typing.specs.Declarators.{function_part, TypeNamed, Enumerated, Members, enum_row, struct_row, struct_begun, members_row, tag_place, Declaring, Suffixed, Specified, Parts, Specifying, with_type, specifiers_row, first_token}
+use Rattle.c_typing.specs.Declarators.{function_part, is_register, TypeNamed, Enumerated, Members, enum_row, struct_row, struct_begun, members_row, tag_place, Declaring, Suffixed, Specified, Parts, Specifying, with_type, specifiers_row, first_token}
 use Rattle.c_typing.specs.Parts.{Prefixing, Casting, Operating}
-use Rattle.c_typing.specs.OfTrees.{level_row, binaries_row, suffixes_parts, pointing, is_register, parameter_basis, parameter_type, parameter_named}
+use Rattle.c_typing.specs.OfTrees.{level_row, binaries_row, suffixes_parts, pointing, parameter_basis, parameter_type, parameter_named}
 use Rattle.c_typing.specs.Trees.{expr_typing, specifier_typing}
 use Rattle.c_type_walk.specs.declared.around.Around.{Around}
 use Rattle.c_type_walk.specs.declared.found.Found.{Found}

@@ -9,9 +9,7 @@ use Rattle.c_tree.specs.declared.typed.expression.TExpr.{TExpr}
 use Rattle.c_typing.specs.declared.operand.Operand.{Operand}
 use Rattle.c_typing.specs.declared.declarator.Part.{Part}
 use Rattle.c_typing.specs.declared.declarator.Parameter.{Parameter}
-use Rattle.c_tree.specs.declared.typed.types.Base.TheVariants as base
-use Rattle.c_typing.specs.Types.{plain}
-use Rattle.c_typing.specs.Scopes.{Walk, give, offer, ◌>>=◌, asked, both_asked, in_row}
+use Rattle.c_typing.specs.Scopes.{Walk, offer, ◌>>=◌, asked, both_asked, in_row}
 use Rattle.c_typing.specs.Expressions.{truth_row}
 use Rattle.c_typing.specs.Expressions as rows
 use Rattle.c_typing.specs.Declarators.{enum_ended, Expressed, Enumerated, Members, Specified, Suffixed, Parts, with_specifier, read_specifiers, basis_of, enumerators_row}

@@ -6,21 +6,19 @@ use Rattle.std.proofs.Common.{ap, append-nil}
 use Rattle.c_tree.specs.declared.token.Pos.{Pos}
 use Rattle.c_tree.specs.declared.expression.Identifier.{Identifier}
 use Rattle.c_tree.specs.declared.declarator.Pointer.{Pointer}
-use Rattle.c_tree.specs.declared.typed.types.Base.TheVariants as base
 use Rattle.c_tree.specs.declared.typed.types.CType.{CType}
 use Rattle.c_tree.specs.declared.typed.expression.TExpr.{TExpr}
 use Rattle.c_typing.specs.declared.operand.Operand.{Operand}
 use Rattle.c_typing.specs.declared.declarator.Part.{Part}
-use Rattle.c_typing.specs.declared.declarator.Parameter.{Parameter}
 use Rattle.c_typing.specs.declared.declarator.Basis.{Basis}
-use Rattle.c_typing.specs.Types.{int, plain}
+use Rattle.c_typing.specs.Types.{int}
 use Rattle.c_typing.specs.Operands.{tree_of, value, dropping}
 use Rattle.c_typing.specs.Scopes.{Walk, give, offer, unasked, ◌>>=◌, asked, both_asked, in_row}
 use Rattle.c_typing.specs.Expressions as rows
 use Rattle.c_typing.specs.Expressions.{truth_row}
-use Rattle.c_typing.specs.Declarators.{Enumerated, Members, struct_row, struct_begun, members_row, tag_place, all_members, enum_row, enum_ended, enumerators_row}
+use Rattle.c_typing.specs.Declarators.{Enumerated, Members, is_register, struct_row, struct_begun, members_row, tag_place, all_members, enum_row, enum_ended, enumerators_row}
 use Rattle.c_typing.specs.Parts.{Prefixing, Operating, Branching}
-use Rattle.c_typing.specs.OfTrees.{prefix_row, prefixes_row, truths_row, logical_row, chain_row, assigns_row, commas_row, pointing, is_register, parameter_named}
+use Rattle.c_typing.specs.OfTrees.{prefix_row, prefixes_row, truths_row, logical_row, chain_row, assigns_row, commas_row, pointing, parameter_named}
 use Rattle.c_type_declarators.specs.Enumerations.{enum_begun}
 use Rattle.c_type_declarators.specs.Parameters.{parameter_given}
 use Rattle.c_type_trees.specs.declared.sequences.Choice.{Choice}

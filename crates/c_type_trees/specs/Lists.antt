@@ -2,7 +2,7 @@
 -- The clauses of `members`, `parameters`, `sequences` and `types` cite them.
 use Rattle.std.specs.Prelude.{Bool, if◌then◌else◌, List, [], ◌∷◌, ◌++◌, Option, Some, None}
 use Rattle.std.specs.Option.{option_map}
-use Rattle.c_typing.specs.Scopes.{Walk, offer, ◌>>=◌, in_row}
+use Rattle.c_typing.specs.Scopes.{Walk, offer, ◌>>=◌, in_row, in_definition}
 use Rattle.c_typing.specs.declared.declarator.Parameter.{Parameter}
 use Rattle.c_typing.specs.Declarators.{Members, all_members}
 use Rattle.c_typing.specs.OfTrees.{in_prototype}
@@ -19,6 +19,6 @@ both_joined _ _ = None
 abbrev pub all_in_row : List (Walk Members) → Walk Members
 all_in_row ws = in_row ws >>= λ ms. offer (option_map all_members ms)
 
--- the parameters of a definition stay in scope, and those of a declaration are a scope of their own
+-- the parameters of a definition are in its scope, and those of a declaration are a scope of their own
 abbrev pub listed : (defining : Bool) → Walk (List Parameter) → Walk (List Parameter)
-listed defining w = if defining then w else in_prototype w
+listed defining w = if defining then in_definition w else in_prototype w

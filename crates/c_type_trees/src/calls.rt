@@ -6,6 +6,7 @@ ghost use Rattle.c_typing.specs.Declarators as declarators;
 ghost use Rattle.c_typing.specs.Trees as typing;
 ghost use Rattle.c_type_walk.specs.Walks.{Walks};
 
+use crate::held::released;
 use crate::inside::inside;
 use crate::walker::Walker;
 use c_tree::typed::CType;
@@ -37,7 +38,8 @@ pub fn expr(
         more: DEEPEST,
         inside,
     };
-    walker.expr(found, around, tree)
+    let value = walker.expr(found, around, tree)?;
+    Ok(released(value))
 }
 
 /// What specifiers are as a whole (C11 6.7), or `None` where a fault stands in them; whether they stand alone, without a declarator

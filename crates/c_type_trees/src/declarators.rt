@@ -22,6 +22,7 @@ use word_ops::{Items, Memory};
 impl<F: Fn(Global, &mut Found, &Around<'_>, u64, Tree<'_>) -> Result<Typed, Memory>> Walker<F> {
     /// The derivations of a declarator, each applied to the type before it; the parameters of the part beside the name are kept in
     /// scope where it is that of a definition.
+    #[inline(never)]
     pub fn derivations(
         &self,
         found: &mut Found,

@@ -11,14 +11,13 @@ ghost use Rattle.c_type_trees.specs.Operands as operands;
 
 use crate::names::first_operand;
 use crate::nested::{Tree, Typed};
-use crate::operands::{character, integer, strings};
+use crate::operands::{character, integer, named, strings};
 use crate::walker::Walker;
 use c_tree::Expr;
-use c_type_expressions::name_row;
 use c_type_walk::{Around, Found};
 use c_typing::Operand;
 use std::alloc::Global;
-use word_ops::{Items, Memory};
+use word_ops::{Boxed, Items, Memory};
 
 impl<F: Fn(Global, &mut Found, &Around<'_>, u64, Tree<'_>) -> Result<Typed, Memory>> Walker<F> {
     /// What typing makes of an expression. The operands with which it begins, each inside the one before it, are walked one after the
@@ -28,7 +27,7 @@ impl<F: Fn(Global, &mut Found, &Around<'_>, u64, Tree<'_>) -> Result<Typed, Memo
         found: &mut Found,
         around: &Around<'_>,
         tree: &Expr,
-    ) -> Result<Option<Operand>, Memory>
+    ) -> Result<Option<Boxed<Operand>>, Memory>
         requires { Nests WalksTree self.now.more (F.pre self.now.inside) (F.post self.now.inside) }
         ensures { Walks (typing.expr_typing tree.now).typed around.now found.old result found.new }
     {
@@ -48,8 +47,8 @@ impl<F: Fn(Global, &mut Found, &Around<'_>, u64, Tree<'_>) -> Result<Typed, Memo
         found: &mut Found,
         around: &Around<'_>,
         mut begun: Items<&Expr>,
-        first: Option<Operand>,
-    ) -> Result<Option<Operand>, Memory>
+        first: Option<Boxed<Operand>>,
+    ) -> Result<Option<Boxed<Operand>>, Memory>
         requires { Nests WalksTree self.now.more (F.pre self.now.inside) (F.post self.now.inside) }
         ensures { Walks (operands.behind_all begun.entry first) around.now found.old result found.new }
     {
@@ -67,12 +66,12 @@ impl<F: Fn(Global, &mut Found, &Around<'_>, u64, Tree<'_>) -> Result<Typed, Memo
         found: &mut Found,
         around: &Around<'_>,
         tree: &Expr,
-    ) -> Result<Option<Operand>, Memory>
+    ) -> Result<Option<Boxed<Operand>>, Memory>
         requires { Nests WalksTree self.now.more (F.pre self.now.inside) (F.post self.now.inside) }
         ensures { Walks (operands.other_row (out-Expr tree.now)) around.now found.old result found.new }
     {
         match tree {
-            Expr::Name(name) => name_row(self.alloc, found, around, name),
+            Expr::Name(name) => named(self.alloc, found, around, name),
             Expr::Number(value, kind, _) => integer(self.alloc, *value, *kind),
             Expr::Char(value, _) => character(self.alloc, *value),
             Expr::Strings(all) => strings(self.alloc, found, around, all.as_slice()),
@@ -97,8 +96,8 @@ impl<F: Fn(Global, &mut Found, &Around<'_>, u64, Tree<'_>) -> Result<Typed, Memo
         found: &mut Found,
         around: &Around<'_>,
         tree: &Expr,
-        first: Option<Operand>,
-    ) -> Result<Option<Operand>, Memory>
+        first: Option<Boxed<Operand>>,
+    ) -> Result<Option<Boxed<Operand>>, Memory>
         requires { Nests WalksTree self.now.more (F.pre self.now.inside) (F.post self.now.inside) }
         ensures { Walks (operands.behind_row (out-Expr tree.now) first) around.now found.old result found.new }
     {

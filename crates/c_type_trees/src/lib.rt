@@ -39,6 +39,7 @@ macro_rules! some_or_drop {
 mod calls;
 mod declarators;
 mod expressions;
+mod held;
 mod inside;
 mod members;
 mod names;

@@ -3,7 +3,7 @@
 
 use c_tree::{Declarator, Expr, Specifier};
 use c_typing::{Basis, Operand, Part};
-use word_ops::Items;
+use word_ops::{Boxed, Items};
 
 /// A tree that stands inside another.
 #[derive(Clone, Copy)]
@@ -20,7 +20,7 @@ pub(crate) enum Tree<'a> {
 #[derive(Drop)]
 pub(crate) enum Typed {
     /// what an expression is
-    Operand(Option<Operand>),
+    Operand(Option<Boxed<Operand>>),
     /// what specifiers are as a whole
     Basis(Option<Basis>),
     /// the derivations of a declarator

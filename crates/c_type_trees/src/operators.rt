@@ -21,7 +21,7 @@ use c_tree::{Branch, Level, Next};
 use c_type_walk::{Around, Found};
 use c_typing::Operand;
 use std::alloc::Global;
-use word_ops::{Items, Memory};
+use word_ops::{Boxed, Items, Memory};
 
 impl<F: Fn(Global, &mut Found, &Around<'_>, u64, Tree<'_>) -> Result<Typed, Memory>> Walker<F> {
     /// Operators of one level behind their first operand (C11 6.5.5 to 6.5.14).
@@ -31,8 +31,8 @@ impl<F: Fn(Global, &mut Found, &Around<'_>, u64, Tree<'_>) -> Result<Typed, Memo
         around: &Around<'_>,
         level: Level,
         rest: &[Next],
-        first: Option<Operand>,
-    ) -> Result<Option<Operand>, Memory>
+        first: Option<Boxed<Operand>>,
+    ) -> Result<Option<Boxed<Operand>>, Memory>
         requires { Nests WalksTree self.now.more (F.pre self.now.inside) (F.post self.now.inside) }
         ensures { Walks (spec.level_row level first (map typing.next_typing rest.now)) around.now found.old result found.new }
     {
@@ -44,13 +44,14 @@ impl<F: Fn(Global, &mut Found, &Around<'_>, u64, Tree<'_>) -> Result<Typed, Memo
     }
 
     /// Operators that are read from left to right (C11 6.5.5 to 6.5.12).
+    #[inline(never)]
     fn binaries(
         &self,
         found: &mut Found,
         around: &Around<'_>,
         rest: &[Next],
-        first: Option<Operand>,
-    ) -> Result<Option<Operand>, Memory>
+        first: Option<Boxed<Operand>>,
+    ) -> Result<Option<Boxed<Operand>>, Memory>
         requires { Nests WalksTree self.now.more (F.pre self.now.inside) (F.post self.now.inside) }
         ensures { Walks (spec.binaries_row (map typing.next_typing rest.now) first) around.now found.old result found.new }
     {
@@ -63,14 +64,15 @@ impl<F: Fn(Global, &mut Found, &Around<'_>, u64, Tree<'_>) -> Result<Typed, Memo
     }
 
     /// `||` or `&&` (C11 6.5.14, 6.5.13).
+    #[inline(never)]
     fn logical(
         &self,
         found: &mut Found,
         around: &Around<'_>,
         is_or: bool,
         rest: &[Next],
-        first: Option<Operand>,
-    ) -> Result<Option<Operand>, Memory>
+        first: Option<Boxed<Operand>>,
+    ) -> Result<Option<Boxed<Operand>>, Memory>
         requires { Nests WalksTree self.now.more (F.pre self.now.inside) (F.post self.now.inside) }
         ensures { Walks (spec.logical_row (sequences.logical_tree is_or) first (map typing.next_typing rest.now)) around.now found.old result found.new }
     {
@@ -78,7 +80,7 @@ impl<F: Fn(Global, &mut Found, &Around<'_>, u64, Tree<'_>) -> Result<Typed, Memo
             Some(next) => {
                 let done = first_truth(self.alloc, found, around, next.operator.place, first)?;
                 let all = self.truths(found, around, rest, done)?;
-                Ok(logical_of(self.alloc, is_or, all))
+                logical_of(self.alloc, is_or, all)
             }
             None => Ok(first),
         }
@@ -108,13 +110,14 @@ impl<F: Fn(Global, &mut Found, &Around<'_>, u64, Tree<'_>) -> Result<Typed, Memo
     }
 
     /// `? :` (C11 6.5.15): the operands are walked from left to right, and the chain is made from its right end.
+    #[inline(never)]
     pub fn conditional(
         &self,
         found: &mut Found,
         around: &Around<'_>,
         rest: &[Branch],
-        first: Option<Operand>,
-    ) -> Result<Option<Operand>, Memory>
+        first: Option<Boxed<Operand>>,
+    ) -> Result<Option<Boxed<Operand>>, Memory>
         requires { Nests WalksTree self.now.more (F.pre self.now.inside) (F.post self.now.inside) }
         ensures { Walks (sequences.conditional_row (map typing.branch_typing rest.now) first) around.now found.old result found.new }
     {
@@ -134,13 +137,14 @@ impl<F: Fn(Global, &mut Found, &Around<'_>, u64, Tree<'_>) -> Result<Typed, Memo
     }
 
     /// Assignments (C11 6.5.16): the operands are walked from left to right, and the chain is made from its right end.
+    #[inline(never)]
     pub fn assignment(
         &self,
         found: &mut Found,
         around: &Around<'_>,
         rest: &[Next],
-        first: Option<Operand>,
-    ) -> Result<Option<Operand>, Memory>
+        first: Option<Boxed<Operand>>,
+    ) -> Result<Option<Boxed<Operand>>, Memory>
         requires { Nests WalksTree self.now.more (F.pre self.now.inside) (F.post self.now.inside) }
         ensures { Walks (sequences.assignment_row (map typing.next_typing rest.now) first) around.now found.old result found.new }
     {
@@ -158,13 +162,14 @@ impl<F: Fn(Global, &mut Found, &Around<'_>, u64, Tree<'_>) -> Result<Typed, Memo
     }
 
     /// `,` (C11 6.5.17): the values of all operands but the last are dropped.
+    #[inline(never)]
     pub fn comma(
         &self,
         found: &mut Found,
         around: &Around<'_>,
         rest: &[Next],
-        first: Option<Operand>,
-    ) -> Result<Option<Operand>, Memory>
+        first: Option<Boxed<Operand>>,
+    ) -> Result<Option<Boxed<Operand>>, Memory>
         requires { Nests WalksTree self.now.more (F.pre self.now.inside) (F.post self.now.inside) }
         ensures { Walks (spec.commas_row (map typing.next_typing rest.now) [] first) around.now found.old result found.new }
     {

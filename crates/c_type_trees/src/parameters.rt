@@ -3,6 +3,7 @@
 
 ghost use Rattle.std.specs.Prelude.{◌≡◌, map};
 ghost use Rattle.c_typing.specs.OfTrees as spec;
+ghost use Rattle.c_typing.specs.Scopes as scopes;
 ghost use Rattle.c_typing.specs.Trees as typing;
 ghost use Rattle.c_type_walk.specs.Nests.{Nests};
 ghost use Rattle.c_type_walk.specs.Walks.{Walks};
@@ -29,7 +30,8 @@ use word_ops::{Items, Memory};
 type TypedParameter = c_typing::Parameter;
 
 impl<F: Fn(Global, &mut Found, &Around<'_>, u64, Tree<'_>) -> Result<Typed, Memory>> Walker<F> {
-    /// A parameter list: that of a definition stays in scope, and that of a declaration is a scope of its own (C11 6.2.1p4).
+    /// A parameter list: that of a definition is in the scope of its block, and that of a declaration is a scope of its own
+    /// (C11 6.2.1p4).
     pub fn parameter_list(
         &self,
         found: &mut Found,
@@ -56,10 +58,27 @@ impl<F: Fn(Global, &mut Found, &Around<'_>, u64, Tree<'_>) -> Result<Typed, Memo
         ensures { Walks (lists.listed defining (spec.parameters_row 0 (map typing.parameter_typing list.now))) around.now found.old result found.new }
     {
         if defining {
-            self.parameters(found, around, list)
+            self.of_definition(found, around, list)
         } else {
             self.prototype(found, around, list)
         }
+    }
+
+    /// The parameter list of a function definition stands in the scope of the function's block, which is left behind it
+    /// (C11 6.2.1p4).
+    fn of_definition(
+        &self,
+        found: &mut Found,
+        around: &Around<'_>,
+        list: &[Parameter],
+    ) -> Result<Option<Items<TypedParameter>>, Memory>
+        requires { Nests WalksTree self.now.more (F.pre self.now.inside) (F.post self.now.inside) }
+        ensures { Walks (scopes.in_definition (spec.parameters_row 0 (map typing.parameter_typing list.now))) around.now found.old result found.new }
+    {
+        found.enter_definition(self.alloc);
+        let all = self.parameters(found, &around.in_definition(), list)?;
+        found.leave_definition(self.alloc);
+        Ok(all)
     }
 
     /// A parameter list of a declaration is a scope of its own (C11 6.2.1p4), in which no object stands.

@@ -21,17 +21,18 @@ use c_type_expressions::Prefixing;
 use c_type_walk::{Around, Found};
 use c_typing::Operand;
 use std::alloc::Global;
-use word_ops::{Items, Memory};
+use word_ops::{Boxed, Items, Memory};
 
 impl<F: Fn(Global, &mut Found, &Around<'_>, u64, Tree<'_>) -> Result<Typed, Memory>> Walker<F> {
     /// Prefixes, and the operand behind them.
+    #[inline(never)]
     pub fn prefixed(
         &self,
         found: &mut Found,
         around: &Around<'_>,
         run: &[Prefix],
         operand: &Expr,
-    ) -> Result<Option<Operand>, Memory>
+    ) -> Result<Option<Boxed<Operand>>, Memory>
         requires { Nests WalksTree self.now.more (F.pre self.now.inside) (F.post self.now.inside) }
         ensures { Walks (sequences.prefixed_row (map typing.prefix_typing run.now) (typing.expr_typing operand.now)) around.now found.old result found.new }
     {
@@ -41,6 +42,7 @@ impl<F: Fn(Global, &mut Found, &Around<'_>, u64, Tree<'_>) -> Result<Typed, Memo
     }
 
     /// Prefixes, from left to right.
+    #[inline(never)]
     fn prefixes(
         &self,
         found: &mut Found,
@@ -79,13 +81,14 @@ impl<F: Fn(Global, &mut Found, &Around<'_>, u64, Tree<'_>) -> Result<Typed, Memo
     }
 
     /// `sizeof` of a type (C11 6.5.3.4).
+    #[inline(never)]
     pub fn sizeof(
         &self,
         found: &mut Found,
         around: &Around<'_>,
         place: Pos,
         tree: &TypeName,
-    ) -> Result<Option<Operand>, Memory>
+    ) -> Result<Option<Boxed<Operand>>, Memory>
         requires { Nests WalksTree self.now.more (F.pre self.now.inside) (F.post self.now.inside) }
         ensures { Walks (calls.sizeof_row place (typing.type_name_typing tree.now)) around.now found.old result found.new }
     {

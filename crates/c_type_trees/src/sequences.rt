@@ -12,18 +12,19 @@ ghost use Rattle.c_type_expressions.specs.Prefixes.{prefixing};
 ghost use Rattle.c_type_trees.specs.Lists as lists;
 ghost use Rattle.c_type_trees.specs.Sequences as sequences;
 
+use crate::held::{held, released};
 use crate::operands::{prefix_if_both, truth_if_any};
 use c_tree::typed::TExpr;
 use c_tree::{Mark, Pos};
 use c_type_expressions::{
-    Assigned, Chain, Prefixing, all_of, any_of, assign_row, assigned_end, assigned_value,
+    Argument, Assigned, Chain, Prefixing, all_of, any_of, assign_row, assigned_end, assigned_value,
     chain_end, chain_value, comma_of, conditional_row,
 };
 use c_type_rules::{dropping, tree_of};
 use c_type_walk::{Around, Found};
 use c_typing::Operand;
 use std::alloc::Global;
-use word_ops::{Items, Memory};
+use word_ops::{Boxed, Items, Memory};
 
 /// What stands to the left of `:` in a chain of `? :`.
 #[derive(Drop)]
@@ -31,26 +32,38 @@ pub(crate) struct Choice {
     /// the place of `?`
     pub question: Pos,
     /// the condition, where no fault stands in it
-    pub condition: Option<Operand>,
+    pub condition: Option<Boxed<Operand>>,
     /// what is given where it holds
-    pub gives: Option<Operand>,
+    pub gives: Option<Boxed<Operand>>,
 }
 
 /// An assignment operator and what stands to its left.
 #[derive(Drop)]
 pub(crate) struct LeftSide {
     /// the left side, where no fault stands in it
-    pub operand: Option<Operand>,
+    pub operand: Option<Boxed<Operand>>,
     /// the operator
     pub operator: Mark,
 }
 
 /// One more item. What it is made of does not matter here, so that the proof of a list that is let go of is short.
-pub(crate) fn pushed<A: Drop>(mut all: Vec<A>, one: A) -> Result<Vec<A>, Memory>
+fn pushed<A: Drop>(mut all: Vec<A>, one: A) -> Result<Vec<A>, Memory>
     ensures { IfOk result (λ r. r.items ≡ all.items ++ one ∷ []) }
 {
     or_drop!(all.push(one), all);
     Ok(all)
+}
+
+/// One more argument of a call, with the place where it begins (C11 6.5.2.2).
+#[inline(never)]
+pub(crate) fn with_argument(
+    all: Vec<Argument>,
+    first: Pos,
+    value: Option<Boxed<Operand>>,
+) -> Result<Vec<Argument>, Memory>
+    ensures { IfOk result (λ r. r.items ≡ all.items ++ (first, value) ∷ []) }
+{
+    pushed(all, (first, released(value)))
 }
 
 /// One more item, where there are items before it and it is one.
@@ -72,8 +85,8 @@ pub(crate) fn prefixed_by(
     found: &mut Found,
     around: &Around<'_>,
     mut run: Items<Option<Prefixing>>,
-    operand: Option<Operand>,
-) -> Result<Option<Operand>, Memory>
+    operand: Option<Boxed<Operand>>,
+) -> Result<Option<Boxed<Operand>>, Memory>
     ensures { Walks (spec.prefixes_row (map (option_map prefixing) run) operand) around.now found.old result found.new }
 {
     let mut value = operand;
@@ -85,13 +98,14 @@ pub(crate) fn prefixed_by(
 }
 
 /// The same, where the prefixes are there.
+#[inline(never)]
 pub(crate) fn prefixed_if_any(
     alloc: Global,
     found: &mut Found,
     around: &Around<'_>,
     run: Option<Items<Option<Prefixing>>>,
-    operand: Option<Operand>,
-) -> Result<Option<Operand>, Memory>
+    operand: Option<Boxed<Operand>>,
+) -> Result<Option<Boxed<Operand>>, Memory>
     ensures { Walks (scopes.asked (option_map (λ all. map (option_map prefixing) all) run) (λ all. spec.prefixes_row all operand)) around.now found.old result found.new }
 {
     let run = some_or_drop!(run, operand);
@@ -99,12 +113,13 @@ pub(crate) fn prefixed_if_any(
 }
 
 /// The first operand of `&&` or `||`, as the list of those that were read (C11 6.5.13p2, 6.5.14p2).
+#[inline(never)]
 pub(crate) fn first_truth(
     alloc: Global,
     found: &mut Found,
     around: &Around<'_>,
     place: Pos,
-    operand: Option<Operand>,
+    operand: Option<Boxed<Operand>>,
 ) -> Result<Option<Items<TExpr>>, Memory>
     ensures { Walks (sequences.first_truth place operand) around.now found.old result found.new }
 {
@@ -113,69 +128,81 @@ pub(crate) fn first_truth(
 }
 
 /// One more operand of `&&` or `||`, where no fault stands in those before it.
+#[inline(never)]
 pub(crate) fn with_truth(
     alloc: Global,
     all: Option<Items<TExpr>>,
-    truth: Option<Operand>,
+    truth: Option<Boxed<Operand>>,
 ) -> Result<Option<Items<TExpr>>, Memory>
     ensures { IfOk result (λ r. r ≡ sequences.with_truth all truth) }
 {
     let mut all = some_or_drop!(all, truth);
     let truth = some_or_drop!(truth, all);
-    let tree = or_drop!(tree_of(alloc, truth), all);
+    let tree = or_drop!(tree_of(alloc, truth.into_inner()), all);
     or_drop!(all.push(tree), all);
     Ok(Some(all))
 }
 
 /// `&&` or `||` of operands, where no fault stands in them.
-pub(crate) fn logical_of(alloc: Global, is_or: bool, all: Option<Items<TExpr>>) -> Option<Operand>
-    ensures { result ≡ option_map (sequences.logical_of is_or) all }
+#[inline(never)]
+pub(crate) fn logical_of(
+    alloc: Global,
+    is_or: bool,
+    all: Option<Items<TExpr>>,
+) -> Result<Option<Boxed<Operand>>, Memory>
+    ensures { IfOk result (λ r. r ≡ option_map (sequences.logical_of is_or) all) }
 {
-    let all = all?;
+    let Some(all) = all else {
+        return Ok(None);
+    };
     if is_or {
-        Some(any_of(alloc, all))
+        held(alloc, Some(any_of(alloc, all)))
     } else {
-        Some(all_of(alloc, all))
+        held(alloc, Some(all_of(alloc, all)))
     }
 }
 
 /// The operands of a comma whose value is dropped, and one more, where no fault stands in them (C11 6.5.17p2).
+#[inline(never)]
 pub(crate) fn with_dropped(
     alloc: Global,
     all: Option<Items<TExpr>>,
-    operand: Option<Operand>,
+    operand: Option<Boxed<Operand>>,
 ) -> Result<Option<Items<TExpr>>, Memory>
     ensures { IfOk result (λ r. r ≡ sequences.with_dropped all operand) }
 {
     let mut all = some_or_drop!(all, operand);
     let operand = some_or_drop!(operand, all);
-    let operand = or_drop!(dropping(alloc, operand), all);
+    let operand = or_drop!(dropping(alloc, operand.into_inner()), all);
     let tree = or_drop!(tree_of(alloc, operand), all);
     or_drop!(all.push(tree), all);
     Ok(Some(all))
 }
 
 /// `,`: the operands that are dropped, and the last (C11 6.5.17p2).
+#[inline(never)]
 pub(crate) fn comma_if_both(
     alloc: Global,
     dropped: Option<Items<TExpr>>,
-    last: Option<Operand>,
-) -> Result<Option<Operand>, Memory>
+    last: Option<Boxed<Operand>>,
+) -> Result<Option<Boxed<Operand>>, Memory>
     ensures { IfOk result (λ r. r ≡ sequences.comma_if_both dropped last) }
 {
     let dropped = some_or_drop!(dropped, last);
     let last = some_or_drop!(last, dropped);
-    Ok(Some(comma_of(alloc, dropped, last)?))
+    let value = comma_of(alloc, dropped, last.into_inner())?;
+    held(alloc, Some(value))
 }
 
 /// A chain of `? :`, made from its right end (C11 6.5.15p1).
+#[inline(never)]
 pub(crate) fn chosen_by(
     alloc: Global,
     found: &mut Found,
     around: &Around<'_>,
     mut choices: Items<Choice>,
-    last: Option<Operand>,
-) -> Result<Option<Operand>, Memory>
+    last: Option<Boxed<Operand>>,
+) -> Result<Option<Boxed<Operand>>, Memory>
     ensures { Walks (sequences.choices_row choices last) around.now found.old result found.new }
 {
     let mut chain = or_drop!(last_of_chain(alloc, last), choices);
@@ -185,6 +212,7 @@ pub(crate) fn chosen_by(
             condition,
             gives,
         } = choice;
+        let (condition, gives) = (released(condition), released(gives));
         chain = or_drop!(
             conditional_row(alloc, found, around, question, condition, gives, chain),
             choices
@@ -195,40 +223,44 @@ pub(crate) fn chosen_by(
 }
 
 /// The right end of a chain of `? :`, where no fault stands in it.
-fn last_of_chain(alloc: Global, last: Option<Operand>) -> Result<Option<Chain>, Memory>
+fn last_of_chain(alloc: Global, last: Option<Boxed<Operand>>) -> Result<Option<Chain>, Memory>
     ensures { IfOk result (λ r. option_map chain_of r ≡ option_map spec.chain_end last) }
 {
     match last {
-        Some(last) => Ok(Some(chain_end(alloc, last)?)),
+        Some(last) => Ok(Some(chain_end(alloc, last.into_inner())?)),
         None => Ok(None),
     }
 }
 
 /// What a chain of `? :` is as a whole.
-fn value_of_chain(alloc: Global, chain: Option<Chain>) -> Result<Option<Operand>, Memory>
+fn value_of_chain(alloc: Global, chain: Option<Chain>) -> Result<Option<Boxed<Operand>>, Memory>
     ensures { IfOk result (λ o. o ≡ option_map (λ c. c.whole) (option_map chain_of chain)) }
 {
     match chain {
-        Some(chain) => Ok(Some(chain_value(alloc, chain)?)),
+        Some(chain) => {
+            let value = chain_value(alloc, chain)?;
+            held(alloc, Some(value))
+        }
         None => Ok(None),
     }
 }
 
 /// A chain of assignments, made from its right end (C11 6.5.16p1).
+#[inline(never)]
 pub(crate) fn assigned_by(
     alloc: Global,
     found: &mut Found,
     around: &Around<'_>,
     mut left: Items<LeftSide>,
-    last: Option<Operand>,
-) -> Result<Option<Operand>, Memory>
+    last: Option<Boxed<Operand>>,
+) -> Result<Option<Boxed<Operand>>, Memory>
     ensures { Walks (sequences.left_sides_row left last) around.now found.old result found.new }
 {
     let mut assigned = or_drop!(last_assigned(alloc, last), left);
     while let Some(side) = left.pop() {
         let LeftSide { operand, operator } = side;
         assigned = or_drop!(
-            assign_row(alloc, found, around, operator, operand, assigned),
+            assign_row(alloc, found, around, operator, released(operand), assigned),
             left
         );
     }
@@ -237,21 +269,27 @@ pub(crate) fn assigned_by(
 }
 
 /// The right end of a chain of assignments, where no fault stands in it.
-fn last_assigned(alloc: Global, last: Option<Operand>) -> Result<Option<Assigned>, Memory>
+fn last_assigned(alloc: Global, last: Option<Boxed<Operand>>) -> Result<Option<Assigned>, Memory>
     ensures { IfOk result (λ r. option_map assigned_of r ≡ option_map spec.assigned_end last) }
 {
     match last {
-        Some(last) => Ok(Some(assigned_end(alloc, last)?)),
+        Some(last) => Ok(Some(assigned_end(alloc, last.into_inner())?)),
         None => Ok(None),
     }
 }
 
 /// What a chain of assignments is as a whole.
-fn value_of_assigned(alloc: Global, assigned: Option<Assigned>) -> Result<Option<Operand>, Memory>
+fn value_of_assigned(
+    alloc: Global,
+    assigned: Option<Assigned>,
+) -> Result<Option<Boxed<Operand>>, Memory>
     ensures { IfOk result (λ o. o ≡ option_map (λ a. a.whole) (option_map assigned_of assigned)) }
 {
     match assigned {
-        Some(assigned) => Ok(Some(assigned_value(alloc, assigned)?)),
+        Some(assigned) => {
+            let value = assigned_value(alloc, assigned)?;
+            held(alloc, Some(value))
+        }
         None => Ok(None),
     }
 }

@@ -11,6 +11,7 @@ ghost use Rattle.c_type_expressions.specs.Told.{WalksAs};
 ghost use Rattle.c_type_trees.specs.Nested.{WalksTree};
 ghost use Rattle.c_type_trees.specs.Specifying as spec;
 
+use crate::held::released;
 use crate::names::{first_specifier, first_token};
 use crate::nested::{Tree, Typed};
 use crate::types::{with_constant, with_storage, with_type, with_word};
@@ -30,6 +31,7 @@ use word_ops::Memory;
 impl<F: Fn(Global, &mut Found, &Around<'_>, u64, Tree<'_>) -> Result<Typed, Memory>> Walker<F> {
     /// What specifiers are as a whole (C11 6.7); whether they stand alone, without a declarator behind them, matters to a tag (C11
     /// 6.7.2.3p7).
+    #[inline(never)]
     pub fn basis(
         &self,
         found: &mut Found,
@@ -160,7 +162,7 @@ impl<F: Fn(Global, &mut Found, &Around<'_>, u64, Tree<'_>) -> Result<Typed, Memo
             Enumerator::Valued(_, name, _, value) => {
                 let operand = self.expr(found, around, value)?;
                 let first = first_token(value);
-                valued_enumerator(self.alloc, found, around, name, first, operand)
+                valued_enumerator(self.alloc, found, around, name, first, released(operand))
             }
         }
     }

@@ -15,24 +15,25 @@ use crate::nested::{Tree, Typed};
 use crate::operands::{
     arrow_if_any, bad_call_if_any, call_if_any, increment_if_any, index_if_both, member_if_any,
 };
-use crate::sequences::pushed;
+use crate::sequences::with_argument;
 use crate::walker::Walker;
 use c_tree::{Expr, Identifier, Next, Pos, Punct, Suffix};
 use c_type_expressions::Argument;
 use c_type_walk::{Around, Found};
 use c_typing::Operand;
 use std::alloc::Global;
-use word_ops::Memory;
+use word_ops::{Boxed, Memory};
 
 impl<F: Fn(Global, &mut Found, &Around<'_>, u64, Tree<'_>) -> Result<Typed, Memory>> Walker<F> {
     /// An operand and the suffixes behind it; a name directly before the `(` of a call is that of a function (C11 6.5.2.2p1).
+    #[inline(never)]
     pub fn postfix(
         &self,
         found: &mut Found,
         around: &Around<'_>,
         operand: &Expr,
         all: &[Suffix],
-    ) -> Result<Option<Operand>, Memory>
+    ) -> Result<Option<Boxed<Operand>>, Memory>
         requires { Nests WalksTree self.now.more (F.pre self.now.inside) (F.post self.now.inside) }
         ensures { Walks (spec.postfix_row (typing.expr_typing operand.now) (typing.expr_typing operand.now).callee (map typing.suffix_typing all.now)) around.now found.old result found.new }
     {
@@ -46,13 +47,14 @@ impl<F: Fn(Global, &mut Found, &Around<'_>, u64, Tree<'_>) -> Result<Typed, Memo
     }
 
     /// Suffixes of which the first is the call of a name (C11 6.5.2.2).
+    #[inline(never)]
     fn call_first(
         &self,
         found: &mut Found,
         around: &Around<'_>,
         function: &Identifier,
         all: &[Suffix],
-    ) -> Result<Option<Operand>, Memory>
+    ) -> Result<Option<Boxed<Operand>>, Memory>
         requires { Nests WalksTree self.now.more (F.pre self.now.inside) (F.post self.now.inside) }
         ensures { Walks (calls.call_first function.now (map typing.suffix_typing all.now)) around.now found.old result found.new }
     {
@@ -102,7 +104,7 @@ impl<F: Fn(Global, &mut Found, &Around<'_>, u64, Tree<'_>) -> Result<Typed, Memo
         ensures { WalksAs (λ v. v.items) (calls.all_arguments first.now rest.now) around.now found.old result found.new }
     {
         let value = self.expr(found, around, first)?;
-        let all = pushed(Vec::new(self.alloc), (first_token(first), value))?;
+        let all = with_argument(Vec::new(self.alloc), first_token(first), value)?;
         self.more_arguments(found, around, rest, all)
     }
 
@@ -120,19 +122,20 @@ impl<F: Fn(Global, &mut Found, &Around<'_>, u64, Tree<'_>) -> Result<Typed, Memo
         let mut all = before;
         for next in rest {
             let value = or_drop!(self.expr(found, around, &next.operand), all);
-            all = pushed(all, (first_token(&next.operand), value))?;
+            all = with_argument(all, first_token(&next.operand), value)?;
         }
         Ok(Some(all))
     }
 
     /// Suffixes behind an operand, from left to right.
+    #[inline(never)]
     fn suffixes(
         &self,
         found: &mut Found,
         around: &Around<'_>,
         all: &[Suffix],
-        operand: Option<Operand>,
-    ) -> Result<Option<Operand>, Memory>
+        operand: Option<Boxed<Operand>>,
+    ) -> Result<Option<Boxed<Operand>>, Memory>
         requires { Nests WalksTree self.now.more (F.pre self.now.inside) (F.post self.now.inside) }
         ensures { Walks (spec.suffixes_row (map typing.suffix_typing all.now) operand) around.now found.old result found.new }
     {
@@ -149,8 +152,8 @@ impl<F: Fn(Global, &mut Found, &Around<'_>, u64, Tree<'_>) -> Result<Typed, Memo
         found: &mut Found,
         around: &Around<'_>,
         tree: &Suffix,
-        operand: Option<Operand>,
-    ) -> Result<Option<Operand>, Memory>
+        operand: Option<Boxed<Operand>>,
+    ) -> Result<Option<Boxed<Operand>>, Memory>
         requires { Nests WalksTree self.now.more (F.pre self.now.inside) (F.post self.now.inside) }
         ensures { Walks (spec.suffix_row (typing.suffix_typing tree.now) operand) around.now found.old result found.new }
     {
@@ -181,8 +184,8 @@ impl<F: Fn(Global, &mut Found, &Around<'_>, u64, Tree<'_>) -> Result<Typed, Memo
         around: &Around<'_>,
         place: Pos,
         inner: &Expr,
-        operand: Option<Operand>,
-    ) -> Result<Option<Operand>, Memory>
+        operand: Option<Boxed<Operand>>,
+    ) -> Result<Option<Boxed<Operand>>, Memory>
         requires { Nests WalksTree self.now.more (F.pre self.now.inside) (F.post self.now.inside) }
         ensures { Walks (calls.indexed place (typing.expr_typing inner.now) operand) around.now found.old result found.new }
     {
@@ -198,8 +201,8 @@ impl<F: Fn(Global, &mut Found, &Around<'_>, u64, Tree<'_>) -> Result<Typed, Memo
         place: Pos,
         first: &Expr,
         rest: &[Next],
-        operand: Option<Operand>,
-    ) -> Result<Option<Operand>, Memory>
+        operand: Option<Boxed<Operand>>,
+    ) -> Result<Option<Boxed<Operand>>, Memory>
         requires { Nests WalksTree self.now.more (F.pre self.now.inside) (F.post self.now.inside) }
         ensures { Walks (calls.called_value place first.now rest.now operand) around.now found.old result found.new }
     {

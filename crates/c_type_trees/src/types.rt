@@ -14,6 +14,7 @@ ghost use Rattle.c_type_declarators.specs.Specifiers.{parts_of};
 ghost use Rattle.c_type_trees.specs.Lists as lists;
 ghost use Rattle.c_type_trees.specs.Sequences as sequences;
 
+use crate::held::released;
 use c_tree::typed::CType;
 use c_tree::{Identifier, Pointer, Pos, Storage, TypeWord};
 use c_type_declarators::{
@@ -24,7 +25,7 @@ use c_type_rules::copied;
 use c_type_walk::{Around, Found};
 use c_typing::{Basis, Operand, Parameter, Part};
 use std::alloc::Global;
-use word_ops::{Items, Memory};
+use word_ops::{Boxed, Items, Memory};
 
 /// A member's name, and its type, where no fault stands in that.
 pub(crate) type NamedMember = (Identifier, Option<CType>);
@@ -74,7 +75,7 @@ pub(crate) fn with_type(
 
 /// The type that specifiers name, without their storage word.
 pub(crate) fn basis_type(basis: Option<Basis>) -> Option<CType>
-    ensures { result ≡ option_map trees.basis_type basis }
+    ensures { result ≡ option_map spec.basis_type basis }
 {
     match basis {
         Some(basis) => Some(basis.ctype),
@@ -84,7 +85,7 @@ pub(crate) fn basis_type(basis: Option<Basis>) -> Option<CType>
 
 /// The same as a type of its own, for one of several declarators.
 pub(crate) fn copied_type(alloc: Global, basis: &Option<Basis>) -> Result<Option<CType>, Memory>
-    ensures { IfOk result (λ t. t ≡ option_map trees.basis_type basis.now) }
+    ensures { IfOk result (λ t. t ≡ option_map spec.basis_type basis.now) }
 {
     match basis {
         Some(basis) => Ok(Some(copied(alloc, &basis.ctype)?)),
@@ -95,6 +96,7 @@ pub(crate) fn copied_type(alloc: Global, basis: &Option<Basis>) -> Result<Option
 // ---- declarators
 
 /// What the derivations of a declarator make of a type (C11 6.7.6p4).
+#[inline(never)]
 pub(crate) fn derive_if_both(
     alloc: Global,
     found: &mut Found,
@@ -147,11 +149,11 @@ pub(crate) fn sized_array(
     around: &Around<'_>,
     bracket: Pos,
     first: Pos,
-    operand: Option<Operand>,
+    operand: Option<Boxed<Operand>>,
 ) -> Result<Option<Part>, Memory>
     ensures { Walks (sequences.sized_row bracket first operand) around.now found.old result found.new }
 {
-    let count = match operand {
+    let count = match released(operand) {
         Some(operand) => count_row(alloc, found, around, bracket, first, operand)?,
         None => None,
     };
@@ -177,7 +179,7 @@ pub(crate) fn parameter_basis_if_any(
 
 /// Whether specifiers have `register` (C11 6.7.1).
 pub(crate) fn register_of(basis: &Option<Basis>) -> Option<bool>
-    ensures { result ≡ option_map (λ b. trees.is_register b.storage) basis.now }
+    ensures { result ≡ option_map (λ b. spec.is_register b.storage) basis.now }
 {
     match basis {
         Some(basis) => Some(is_register(basis.storage)),

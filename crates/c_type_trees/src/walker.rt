@@ -17,7 +17,7 @@ use c_type_declarators::name_place;
 use c_type_walk::{Around, Found};
 use c_typing::{Basis, Operand, Part};
 use std::alloc::Global;
-use word_ops::{Items, Memory};
+use word_ops::{Boxed, Items, Memory};
 
 /// A walk over trees, where `more` trees may still stand inside one another. `inside` walks over those.
 #[derive(Clone, Copy)]
@@ -34,7 +34,7 @@ impl<F: Fn(Global, &mut Found, &Around<'_>, u64, Tree<'_>) -> Result<Typed, Memo
         found: &mut Found,
         around: &Around<'_>,
         tree: &Expr,
-    ) -> Result<Option<Operand>, Memory>
+    ) -> Result<Option<Boxed<Operand>>, Memory>
         requires { Nests WalksTree self.now.more (F.pre self.now.inside) (F.post self.now.inside) }
         ensures { Walks (typing.expr_typing tree.now).typed around.now found.old result found.new }
     {

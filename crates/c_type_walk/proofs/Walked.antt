@@ -1,11 +1,11 @@
 -- How what a function finds composes as the walk does that it computes.
 -- The answers of the crates above cite these lemmas: `then`, scopes, and what a call answers.
-use Rattle.std.proofs.Common.{◌≡◌, ◌∙◌, refl, ap, sym, subst, ℕ, List, ◌++◌, Option, Some, None, Result, Ok, Err, IfOk, take, length, append_assoc}
+use Rattle.std.proofs.Common.{◌≡◌, ◌∙◌, refl, ap, sym, subst, false, ℕ, List, ◌++◌, Option, Some, None, Result, Ok, Err, IfOk, take, length, append_assoc}
 use Rattle.std.proofs.lemmas.List.{append-nil}
 use Rattle.word_ops.specs.declared.memory.Memory.{Memory}
 use Rattle.c_typing.specs.declared.fault.Fault.{Fault}
 use Rattle.c_typing.specs.declared.scope.State.{State}
-use Rattle.c_typing.specs.Scopes.{Walk, Said, give, unasked, ◌>>=◌, beside, change, closed, scoped}
+use Rattle.c_typing.specs.Scopes.{Walk, Said, give, unasked, ◌>>=◌, beside, change, closed, scoped, entered, left, in_definition}
 use Rattle.c_typing.specs.Scopes as scopes
 use Rattle.c_type_walk.specs.Walks.{Gave, Walks, fixed}
 use Rattle.c_type_walk.specs.declared.around.Around.{Around}
@@ -88,6 +88,25 @@ in_own_scope {A} w c within old mid new a e g f h =
           h
           ∙ ap (λ (d : scopes.Around). closed_at d.names_from d.tags_from mid.state) e
           ∙ ap (λ (s : State). closed old.state s) inner.state;
+    }
+
+-- the scope of a function definition is entered and left
+pub in_own_definition : {A : Type 0} (w : Walk A) (c : scopes.Around) (within : Around) (old first mid new : Found) (a : Option A) →
+    fixed within ≡ record c { at_file_level = false; names_from = 0; tags_from = 0 } →
+    first.faults ≡ old.faults → first.state ≡ entered old.state → Gave (w (fixed within) first.state) first mid a →
+    new.faults ≡ mid.faults → new.state ≡ left mid.state → Gave (in_definition w c old.state) old new a
+in_own_definition {A} w c within old first mid new a e f h g k l =
+    let inside = record c { at_file_level = false; names_from = 0; tags_from = 0 } in
+    let P : scopes.Around → Type 0 = λ d. Gave (w d first.state) first mid a in
+    let inner : Gave (w inside first.state) first mid a = subst P e g in
+    record {
+      is = inner.is ∙ ap (λ (s : State). (w inside s).given) h;
+      faults =
+          k
+          ∙ inner.faults
+          ∙ ap (λ (fs : List Fault). fs ++ (w inside first.state).faults) f
+          ∙ ap (λ (s : State). old.faults ++ (w inside s).faults) h;
+      state = l ∙ ap left (inner.state ∙ ap (λ (s : State). (w inside s).state) h);
     }
 
 -- ---- what a call answers

@@ -6,15 +6,16 @@ ghost use Rattle.c_type_walk.specs.Walks.{fixed};
 
 use crate::found::Found;
 use c_tree::typed::CType;
-use word_ops::{Items, Text};
+use indexed_list::IndexedList;
+use word_ops::Text;
 
 /// What is fixed around a construct.
 #[derive(Clone, Copy)]
 pub struct Around<'a> {
     /// the functions that the unit defines, in the order of their definitions
-    pub functions: &'a Items<Text>,
+    pub functions: &'a IndexedList<Text>,
     /// the file-level objects that it defines, in the order of their first definitions
-    pub objects: &'a Items<Text>,
+    pub objects: &'a IndexedList<Text>,
     /// at file level, and not in a function
     pub at_file_level: bool,
     /// how many ordinary identifiers were visible where the present scope begins

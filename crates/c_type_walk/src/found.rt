@@ -10,6 +10,7 @@ ghost use Rattle.c_type_walk.specs.Walks.{Walks, fixed};
 
 use crate::around::Around;
 use crate::names::copied_text;
+use crate::scopes::{meaning_of, no_scope, tag_of};
 use c_layout::Tags;
 use c_tree::{FaultKind, Pos};
 use c_typing::{Fault, Linkage, Meaning, State, Tag};
@@ -37,6 +38,8 @@ impl Found {
             state: State {
                 names: ScopeMap::new(alloc),
                 tags: ScopeMap::new(alloc),
+                outer: no_scope(alloc),
+                listed: no_scope(alloc),
                 structs: Tags::new(alloc),
                 fixed: Items::new(alloc),
                 enums: 0,
@@ -88,9 +91,9 @@ impl Found {
 
     /// What an ordinary identifier stands for here (C11 6.2.1p2), or nothing.
     pub fn meaning(&self, name: &Text) -> Option<&Meaning>
-        ensures { option_copied result ≡ spec.latest self.now.state.names name.now }
+        ensures { option_copied result ≡ spec.meaning_of self.now.state name.now }
     {
-        self.state.names.get(name)
+        meaning_of(&self.state, name)
     }
 
     /// What the present scope has declared by an ordinary identifier.
@@ -102,9 +105,9 @@ impl Found {
 
     /// What a tag stands for here (C11 6.7.2.3), or nothing.
     pub fn tag(&self, name: &Text) -> Option<Tag>
-        ensures { result ≡ spec.latest self.now.state.tags name.now }
+        ensures { result ≡ spec.tag_of self.now.state name.now }
     {
-        self.state.tags.get(name).copied()
+        tag_of(&self.state, name).copied()
     }
 
     /// What the present scope has declared by a tag.

@@ -9,7 +9,9 @@
 mod around;
 mod found;
 mod names;
+mod scopes;
 
 pub use around::Around;
 pub use found::Found;
 pub use names::{copied_text, number_in};
+pub use scopes::meaning_of;

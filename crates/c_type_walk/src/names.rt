@@ -4,6 +4,7 @@
 ghost use Rattle.std.specs.Prelude.{◌≡◌, IfOk};
 ghost use Rattle.c_typing.specs.Scopes as spec;
 
+use indexed_list::IndexedList;
 use std::alloc::Global;
 use word_ops::{Memory, Text};
 
@@ -22,19 +23,15 @@ pub fn copied_text(alloc: Global, text: &Text) -> Result<Text, Memory>
 ///
 /// # Errors
 ///
-/// `Memory` where the number of a name before it is the last below 2^32.
-pub fn number_in(names: &[Text], name: &Text) -> Result<Option<u32>, Memory>
+/// `Memory` where the place is not below 2^32.
+pub fn number_in(names: &IndexedList<Text>, name: &Text) -> Result<Option<u32>, Memory>
     ensures { IfOk result (λ n. n ≡ spec.number_in 0 names.now name.now) }
 {
-    let mut number: u32 = 0;
-    for one in names {
-        if *one == *name {
-            return Ok(Some(number));
-        }
-        let Some(next) = number.checked_add(1) else {
-            return Err(Memory);
-        };
-        number = next;
+    match names.place_of(name) {
+        None => Ok(None),
+        Some(place) => match u32::try_from(place) {
+            Ok(number) => Ok(Some(number)),
+            Err(_) => Err(Memory),
+        },
     }
-    Ok(None)
 }

@@ -1,11 +1,10 @@
 -- The file-level objects of a unit, item by item.
 -- The answer of `file_objects` cites these lemmas.
-use Rattle.std.proofs.Common.{◌≡◌, ◌∙◌, ap, sym, ℕ, ◌+◌, ◌<◌, List, [], ◌∷◌, length, get_or, drop, map}
+use Rattle.std.proofs.Common.{◌≡◌, ◌∙◌, ap, sym, ℕ, ◌+◌, ◌<◌, List, [], ◌∷◌, None, length, get_or, drop, map}
 use Rattle.c_tree.specs.declared.declaration.Declaration.{Declaration}
 use Rattle.c_tree.specs.declared.unit.Definition.{Definition}
 use Rattle.c_tree.specs.declared.unit.External.{External}
 use Rattle.c_tree.specs.declared.unit.External.TheVariants as external
-use Rattle.c_typing.specs.declared.scope.Meaning.{Meaning}
 use Rattle.c_typing.specs.Scopes.{Name}
 use Rattle.c_typing.specs.Declarations.{FunctionNames, declared_of, defined_objects}
 use Rattle.c_typing.specs.Units as spec
@@ -13,11 +12,10 @@ use Rattle.c_type_declarations.specs.Counting.{names_in}
 use Rattle.c_type_declarations.proofs.InTurn.{first_left}
 
 -- where nothing is visible
-pub begun : (list : List External) (names : FunctionNames) (visible : List (Name × Meaning)) (all : List Name) →
-    names ≡ names_in visible → visible ≡ [] → all ≡ [] →
+pub begun : (list : List External) (names : FunctionNames) (all : List Name) → names ≡ names_in None → all ≡ [] →
     spec.file_objects names all (map spec.outer_of list) ≡ spec.file_objects spec.no_function [] (map spec.outer_of list)
-begun list names visible all e f g =
-    ap (λ (x : FunctionNames). spec.file_objects x all (map spec.outer_of list)) (e ∙ ap names_in f)
+begun list names all e g =
+    ap (λ (x : FunctionNames). spec.file_objects x all (map spec.outer_of list)) e
     ∙ ap (λ (x : List Name). spec.file_objects spec.no_function x (map spec.outer_of list)) g
 
 -- behind a declaration

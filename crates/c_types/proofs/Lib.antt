@@ -1,6 +1,5 @@
 -- The lemmas of c_types, by subject: a line for each file of this folder.
 -- The folders have the proofs of functions, each beside the path of its function in src.
-pub mod Defined
 mod Bodies
 mod InOrder
 mod FileObjects

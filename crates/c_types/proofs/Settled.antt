@@ -20,16 +20,16 @@ use Rattle.c_typing.specs.Units as spec
 use Rattle.c_typing_laws.specs.Laws.{unfaulted_units_are_typed}
 use Rattle.c_type_walk.specs.Walks.{Gave}
 use Rattle.c_type_walk.specs.declared.found.Found.{Found}
-use Rattle.c_types.specs.Definitions.{around_file, typed_of_parts}
+use Rattle.c_types.specs.Definitions.{typed_of_parts}
 
 -- what is fixed at file level
 pub around_is : (u : tree.Unit) (fs os : List Name) (v : CType) → fs ≡ spec.defined_functions (map spec.outer_of u.items) →
-    os ≡ spec.file_objects spec.no_function [] (map spec.outer_of u.items) → v ≡ void → around_file fs os v ≡ spec.around_unit (spec.source_of u)
+    os ≡ spec.file_objects spec.no_function [] (map spec.outer_of u.items) → v ≡ void → spec.around_file fs os v ≡ spec.around_unit (spec.source_of u)
 around_is u fs os v e f g =
     let items = map spec.outer_of u.items in
-    ap (λ (x : List Name). around_file x os v) e
-    ∙ ap (λ (x : List Name). around_file (spec.defined_functions items) x v) f
-    ∙ ap (λ (x : CType). around_file (spec.defined_functions items) (spec.file_objects spec.no_function [] items) x) g
+    ap (λ (x : List Name). spec.around_file x os v) e
+    ∙ ap (λ (x : List Name). spec.around_file (spec.defined_functions items) x v) f
+    ∙ ap (λ (x : CType). spec.around_file (spec.defined_functions items) (spec.file_objects spec.no_function [] items) x) g
 
 -- a unit that was walked from the beginning
 pub record Walked (u : tree.Unit) (end : Found) (made : Option (List TFunction)) : Type 0 where
@@ -91,7 +91,7 @@ pub record Settled (u : tree.Unit) (fs os : List Name) (end told : Found) (made 
 
 pub settled : (u : tree.Unit) (items : List External) (fs os : List Name) (v : CType) (c : scopes.Around) (start end told : Found) (made : Option (List TFunction)) (m : Option ℕ) (absent : Bool) →
     items ≡ u.items → fs ≡ spec.defined_functions (map spec.outer_of items) → os ≡ spec.file_objects spec.no_function [] (map spec.outer_of items) → v ≡ void →
-    c ≡ around_file fs os v → start.faults ≡ [] → start.state ≡ spec.nothing_found → Gave (spec.outers_row (map spec.outer_of items) c start.state) start end made →
+    c ≡ spec.around_file fs os v → start.faults ≡ [] → start.state ≡ spec.nothing_found → Gave (spec.outers_row (map spec.outer_of items) c start.state) start end made →
     m ≡ number_in 0 fs main → is_some m ≡ not absent → told.faults ≡ end.faults ++ fault_if absent kind.NoMain u.end → told.state ≡ end.state →
     Settled u fs os end told made
 settled u items fs os v c start end told made m absent e ef eo ev ec sf ss g em ea tf ts =

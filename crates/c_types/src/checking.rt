@@ -15,9 +15,10 @@ use c_tree::typed::{Base, CType, Typed};
 use c_tree::{FaultKind, Pos, Unit};
 use c_type_rules::plain;
 use c_type_walk::Found;
+use indexed_list::IndexedList;
 use std::alloc::Global;
 use thiserror::Error;
-use word_ops::{Items, Memory, Text};
+use word_ops::{Memory, Text};
 
 /// Why a unit has no typed tree.
 #[derive(Debug, Drop, Error)]
@@ -72,8 +73,8 @@ pub fn check(alloc: Global, unit: &Unit) -> Result<Typed, CheckFault>
 fn check_defining(
     alloc: Global,
     unit: &Unit,
-    functions: &Items<Text>,
-    objects: &Items<Text>,
+    functions: &IndexedList<Text>,
+    objects: &IndexedList<Text>,
     void: &CType,
 ) -> Result<Typed, CheckFault>
     requires unit { IsUnit unit.now }

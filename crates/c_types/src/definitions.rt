@@ -14,32 +14,21 @@ ghost use Rattle.c_types.specs.Definitions as parts;
 
 use c_tree::typed::{Base, CType, Object, Objects, TFunction, TStmt};
 use c_tree::{
-    Block, BlockItem, Declarator, Definition, FaultKind, Identifier, Pos, Storage, spell_definition,
+    Block, BlockItem, Declarator, Definition, FaultKind, Identifier, Pos, Storage,
+    definition_tokens,
 };
 use c_type_declarations::{
-    allows_untyped_linked, is_addressed, is_defined, is_refused, keep_linkage, object_of,
-    tell_linked,
+    allows_untyped_linked, is_addressed, is_defined, linked, linked_faults, object_of,
 };
 use c_type_declarators::{derive, name_place};
 use c_type_expressions::is_library;
 use c_type_rules::{TypeShape, copied, is_struct, plain, scalar_of, shape};
 use c_type_statements::{begin_objects, count_items, end_objects, items_row};
 use c_type_trees::{first_specifier, name, parts, specifiers};
-use c_type_walk::{Around, Found, copied_text};
+use c_type_walk::{Around, Found};
 use c_typing::{Basis, Meaning, Parameter, Part, State};
 use std::alloc::Global;
 use word_ops::{Items, Memory};
-
-/// How much was visible where a definition's own scope begins.
-#[derive(Clone, Copy)]
-struct Outer {
-    /// how many identifiers
-    names: usize,
-    /// how many identifiers, with the name of the function
-    with_own: usize,
-    /// how many tags
-    tags: usize,
-}
 
 /// A function definition.
 ///
@@ -59,33 +48,28 @@ pub(crate) fn definition_row(
     let basis = specifiers(alloc, found, around, false, list)?;
     let basis = defining_basis(found, around, first, basis)?;
     let place = name_place(name(&tree.declarator), first);
-    let outer = outside(found)?;
-    let within = in_function(around, outer.names, outer.tags);
-    let header = header(alloc, found, &within, place, basis, &tree.declarator)?;
-    behind_header(alloc, found, around, tree, outer, header)
+    found.begin_definition(alloc);
+    let header = header(alloc, found, around, place, basis, &tree.declarator)?;
+    behind_header(alloc, found, around, tree, header)
 }
 
-/// What a definition with this header comes to: where there is a fault in it, its scope ends with it.
+/// What a definition with this header comes to.
 fn behind_header(
     alloc: Global,
     found: &mut Found,
     around: &Around<'_>,
     tree: &Definition,
-    outer: Outer,
     header: Option<(Items<Part>, CType)>,
 ) -> Result<Option<TFunction>, Memory>
-    ensures { Walks (parts.behind_header outer.names outer.with_own outer.tags (spec.defined_of tree.now) (declarator_typing tree.now.declarator).name header) around.now found.old result found.new }
+    ensures { Walks (parts.behind_header (spec.defined_of tree.now) (declarator_typing tree.now.declarator).name header) around.now found.old result found.new }
 {
     let Some(name) = name(&tree.declarator) else {
-        found.close(outer.names, outer.tags);
+        drop(header);
         return Ok(None);
     };
     match header {
-        Some(header) => defined_as(alloc, found, around, tree, name, outer, header),
-        None => {
-            found.close(outer.names, outer.tags);
-            untyped_definition(alloc, found, around, name)
-        }
+        Some(header) => defined_as(alloc, found, around, tree, name, header),
+        None => untyped_definition(alloc, found, around, name),
     }
 }
 
@@ -113,32 +97,6 @@ fn is_typedef(storage: Option<Storage>) -> bool
     match storage {
         Some(Storage::Typedef) => true,
         _ => false,
-    }
-}
-
-fn outside(found: &Found) -> Result<Outer, Memory>
-    ensures { IfOk result (λ r. r ≡ parts.outside found.now.state) }
-{
-    let names = found.state.names.mark();
-    let Some(with_own) = names.checked_add(1) else {
-        return Err(Memory);
-    };
-    Ok(Outer {
-        names,
-        with_own,
-        tags: found.state.tags.mark(),
-    })
-}
-
-/// What is fixed in the scope of a function's outermost block, which its parameter list begins (C11 6.2.1p4).
-fn in_function<'a>(around: &Around<'a>, names: usize, tags: usize) -> Around<'a>
-    ensures { fixed result ≡ record (fixed around.now) { at_file_level = false; names_from = names; tags_from = tags } }
-{
-    Around {
-        at_file_level: false,
-        names_from: names,
-        tags_from: tags,
-        ..*around
     }
 }
 
@@ -180,104 +138,89 @@ fn untyped_definition(
     Ok(None)
 }
 
-/// A definition of this type: its name is declared outside of the scope of its parameters.
+/// A definition of this type: its name is declared at file scope, and the block stands in the scope that its parameters
+/// begin (C11 6.2.1p4).
 fn defined_as(
     alloc: Global,
     found: &mut Found,
     around: &Around<'_>,
     tree: &Definition,
     name: &Identifier,
-    outer: Outer,
     header: (Items<Part>, CType),
 ) -> Result<Option<TFunction>, Memory>
-    ensures { Walks (parts.defined_behind outer.names outer.with_own outer.tags (spec.defined_of tree.now) name.now header) around.now found.old result found.new }
+    ensures { Walks (parts.defined_as (spec.defined_of tree.now) name.now header) around.now found.old result found.new }
 {
-    let tokens = token_count(alloc, tree)?;
+    let tokens = definition_tokens(tree)?;
     let (list, ctype) = header;
-    tell_definition(alloc, found, around, name, outer, &ctype)?;
+    linked_faults(alloc, found, around, name, true, &ctype)?;
     let value = result_of(alloc, &ctype)?;
     let parameters = parameters_of(alloc, list);
-    begin(alloc, found, name, outer, ctype, parameters.as_slice())?;
+    begin(alloc, found, name, ctype, parameters.as_slice())?;
     let body = scoped_body(
         alloc,
         found,
         around,
-        outer,
         &value,
         parameters.as_slice(),
         &tree.body,
     )?;
+    end(alloc, found);
     Ok(function_of(tokens, value, body))
 }
 
-/// Tells what is wrong with a definition of this type beside the declarations before it: what the scope of its parameters
-/// has declared is out of sight.
-fn tell_definition(
-    alloc: Global,
-    found: &mut Found,
-    around: &Around<'_>,
-    name: &Identifier,
-    outer: Outer,
-    ctype: &CType,
-) -> Result<(), Memory>
-    ensures faults { OnOk result (found.new.faults ≡ found.old.faults ++ declarations.linked_faults (fixed around.now) (parts.closed_at outer.names outer.tags found.old.state) name.now true ctype.now) }
-    ensures state { found.new.state ≡ found.old.state }
-{
-    let own = found
-        .state
-        .names
-        .get_between(around.names_from, outer.names, &name.text);
-    let refused = is_refused(alloc, found, own, &name.text, true, ctype)?;
-    tell_linked(alloc, found, around, name, refused, ctype)
-}
-
-/// Begins a function of these parameters.
+/// Begins a function of this type and these parameters: its name is declared, and no object of it yet but them.
 fn begin(
     alloc: Global,
     found: &mut Found,
     name: &Identifier,
-    outer: Outer,
     ctype: CType,
     parameters: &[Parameter],
 ) -> Result<(), Memory>
     ensures faults { found.new.faults ≡ found.old.faults }
-    ensures state { OnOk result (found.new.state ≡ spec.entered (length parameters.now) (spec.named_outside outer.names name.now.text ctype (parts.readied parameters.now found.old.state))) }
+    ensures state { OnOk result (found.new.state ≡ parts.begun_as name.now.text ctype parameters.now found.old.state) }
 {
-    parameters_ready(found, parameters)?;
-    enter(alloc, found, name, outer, ctype, parameters.len())
+    let Ok(()) = parameters_ready(found, parameters) else {
+        drop(ctype);
+        return Err(Memory);
+    };
+    linked(alloc, found, &name.text, true, ctype)?;
+    found.state.declared = u32::try_from(parameters.len()).map_err(|_| Memory)?;
+    found.state.own = Items::new(alloc);
+    found.state.addressed = Items::new(alloc);
+    Ok(())
 }
 
-/// The body of a function of these parameters, in the scope that begins with them.
+/// Ends a function: nothing is left of its objects.
+fn end(alloc: Global, found: &mut Found)
+    ensures faults { found.new.faults ≡ found.old.faults }
+    ensures state { found.new.state ≡ spec.ended found.old.state }
+{
+    found.state.declared = 0;
+    found.state.own = Items::new(alloc);
+    found.state.addressed = Items::new(alloc);
+}
+
+/// The block of a function of this value and these parameters, in the scope that begins with them.
 fn scoped_body(
     alloc: Global,
     found: &mut Found,
     around: &Around<'_>,
-    outer: Outer,
     value: &CType,
     parameters: &[Parameter],
     tree: &Block,
 ) -> Result<Option<(TStmt, Items<Object>)>, Memory>
-    ensures { Walks (parts.leaving_at outer.with_own outer.tags (spec.in_function outer.with_own outer.tags (parts.body_row parameters.now value.now (block_typing tree.now)))) around.now found.old result found.new }
+    ensures { Walks (scopes.in_definition (spec.body_row parameters.now value.now (block_typing tree.now))) around.now found.old result found.new }
 {
-    let within = Around {
-        result: value,
-        ..in_function(around, outer.with_own, outer.tags)
-    };
-    let body = body_row(alloc, found, &within, parameters, tree)?;
-    leave(alloc, found, outer);
+    found.enter_definition(alloc);
+    let within = around.in_definition();
+    let body = body_row(alloc, found, &within, value, parameters, tree)?;
+    found.leave_definition(alloc);
     Ok(body)
-}
-
-/// How many tokens a definition has.
-fn token_count(alloc: Global, tree: &Definition) -> Result<u64, Memory>
-    ensures { IfOk result (λ n. n ≡ (spec.defined_of tree.now).tokens) }
-{
-    Ok(spell_definition(alloc, tree)?.len() as u64)
 }
 
 /// The function of a definition of so many tokens whose body is this.
 fn function_of(tokens: u64, value: CType, body: Option<(TStmt, Items<Object>)>) -> Option<TFunction>
-    ensures { result ≡ option_map (parts.function_of tokens value) body }
+    ensures { result ≡ option_map (spec.function_made tokens value) body }
 {
     match body {
         Some((body, parameters)) => Some(TFunction {
@@ -328,7 +271,7 @@ fn result_of(alloc: Global, ctype: &CType) -> Result<CType, Memory>
 /// Parameters of structure types have no typed tree yet.
 fn parameters_ready(found: &mut Found, list: &[Parameter]) -> Result<(), Memory>
     ensures faults { found.new.faults ≡ found.old.faults }
-    ensures state { OnOk result (found.new.state ≡ parts.readied list.now found.old.state) }
+    ensures state { OnOk result (found.new.state ≡ spec.readied list.now found.old.state) }
 {
     for one in list {
         let place = name_place(one.name.as_ref(), one.first);
@@ -337,57 +280,18 @@ fn parameters_ready(found: &mut Found, list: &[Parameter]) -> Result<(), Memory>
     Ok(())
 }
 
-/// Begins a function of so many parameters: its own name stands outside of their scope, and no object of it is declared
-/// yet but them.
-fn enter(
-    alloc: Global,
-    found: &mut Found,
-    name: &Identifier,
-    outer: Outer,
-    ctype: CType,
-    parameters: usize,
-) -> Result<(), Memory>
-    ensures faults { found.new.faults ≡ found.old.faults }
-    ensures state { OnOk result (found.new.state ≡ spec.entered parameters (spec.named_outside outer.names name.now.text ctype found.old.state)) }
-{
-    let told = keep_linkage(alloc, found, &name.text, true, ctype)?;
-    let text = copied_text(alloc, &name.text)?;
-    if outer.names <= found.state.names.mark() {
-        found
-            .state
-            .names
-            .insert_at(outer.names, text, Meaning::Linked(told))?;
-    } else {
-        found.state.names.insert(text, Meaning::Linked(told))?;
-    }
-    found.state.declared = u32::try_from(parameters).map_err(|_| Memory)?;
-    found.state.own = Items::new(alloc);
-    found.state.addressed = Items::new(alloc);
-    Ok(())
-}
-
-/// Ends a function: its own name stays declared.
-fn leave(alloc: Global, found: &mut Found, outer: Outer)
-    ensures faults { found.new.faults ≡ found.old.faults }
-    ensures state { found.new.state ≡ parts.left outer.with_own outer.tags found.old.state }
-{
-    found.close(outer.with_own, outer.tags);
-    found.state.own = Items::new(alloc);
-    found.state.addressed = Items::new(alloc);
-    found.state.declared = 0;
-}
-
-/// The body of a function, and its parameters as objects, once all is known of them.
+/// The block of a function, and its parameters as objects, once all is known of them.
 fn body_row(
     alloc: Global,
     found: &mut Found,
     around: &Around<'_>,
+    value: &CType,
     parameters: &[Parameter],
     tree: &Block,
 ) -> Result<Option<(TStmt, Items<Object>)>, Memory>
-    ensures { Walks (parts.body_row parameters.now around.now.result.now (block_typing tree.now)) around.now found.old result found.new }
+    ensures { Walks (spec.body_row parameters.now value.now (block_typing tree.now)) around.now found.old result found.new }
 {
-    let within = in_body(around, parameters.len())?;
+    let within = in_body(around, value, parameters.len())?;
     let made = owned_row(alloc, found, &within, tree.items.as_slice())?;
     let parameters = parameter_objects(alloc, &found.state, parameters)?;
     match made {
@@ -396,15 +300,20 @@ fn body_row(
     }
 }
 
-/// What is fixed in the body of a function of so many parameters.
-fn in_body<'a>(around: &Around<'a>, parameters: usize) -> Result<Around<'a>, Memory>
-    ensures { IfOk result (λ c. fixed c ≡ record (fixed around.now) { own_from = 0; inner_from = parameters; may_break = false; may_continue = false }) }
+/// What is fixed in the block of a function of this value and so many parameters.
+fn in_body<'a>(
+    around: &Around<'a>,
+    value: &'a CType,
+    parameters: usize,
+) -> Result<Around<'a>, Memory>
+    ensures { IfOk result (λ c. fixed c ≡ record (fixed around.now) { own_from = 0; inner_from = parameters; may_break = false; may_continue = false; result = value.now }) }
 {
     Ok(Around {
         own_from: 0,
         inner_from: u32::try_from(parameters).map_err(|_| Memory)?,
         may_break: false,
         may_continue: false,
+        result: value,
         ..*around
     })
 }
@@ -416,7 +325,7 @@ fn owned_row(
     around: &Around<'_>,
     items: &[BlockItem],
 ) -> Result<Option<(Objects, Items<TStmt>)>, Memory>
-    ensures { Walks (parts.owned_row (map block_item_typing items.now)) around.now found.old result found.new }
+    ensures { Walks (spec.owned_row (map block_item_typing items.now)) around.now found.old result found.new }
 {
     let count = count_items(alloc, &found.state, items)?;
     let (outside, within) = begin_objects(alloc, found, around, count)?;

@@ -6,7 +6,7 @@ ghost use Rattle.c_typing.specs.Declarations as declarations;
 ghost use Rattle.c_typing.specs.Scopes as scopes;
 ghost use Rattle.c_typing.specs.Units as spec;
 ghost use Rattle.c_type_walk.specs.Walks.{Walks, fixed};
-ghost use Rattle.c_types.specs.Definitions.{around_file, typed_of_parts};
+ghost use Rattle.c_types.specs.Definitions.{typed_of_parts};
 
 use crate::definitions::definition_row;
 use c_tree::External;
@@ -17,7 +17,7 @@ use c_type_declarations::{
 use c_type_rules::{copied, plain};
 use c_type_walk::{Around, Found, copied_text, number_in};
 use c_typing::State;
-use scope_map::ScopeMap;
+use indexed_list::IndexedList;
 use std::alloc::Global;
 use std::mem;
 use word_ops::{Items, Memory, Text};
@@ -68,13 +68,16 @@ fn outer_row(
 /// # Errors
 ///
 /// `Memory` where memory is wanting.
-pub(crate) fn defined_functions(alloc: Global, list: &[External]) -> Result<Items<Text>, Memory>
+pub(crate) fn defined_functions(
+    alloc: Global,
+    list: &[External],
+) -> Result<IndexedList<Text>, Memory>
     ensures { IfOk result (λ r. r ≡ spec.defined_functions (map spec.outer_of list.now)) }
 {
-    let mut names = Items::new(alloc);
+    let mut names = IndexedList::new(alloc);
     for one in list {
         if let External::Definition(tree) = one {
-            names.push(name_text(alloc, &tree.declarator)?)?;
+            names.push(alloc, name_text(alloc, &tree.declarator)?)?;
         }
     }
     Ok(names)
@@ -85,12 +88,11 @@ pub(crate) fn defined_functions(alloc: Global, list: &[External]) -> Result<Item
 /// # Errors
 ///
 /// `Memory` where memory is wanting.
-pub(crate) fn file_objects(alloc: Global, list: &[External]) -> Result<Items<Text>, Memory>
+pub(crate) fn file_objects(alloc: Global, list: &[External]) -> Result<IndexedList<Text>, Memory>
     ensures { IfOk result (λ r. r ≡ spec.file_objects spec.no_function [] (map spec.outer_of list.now)) }
 {
-    let visible = ScopeMap::new(alloc);
-    let mut names = FunctionNames::new(alloc, &visible);
-    let mut all = Items::new(alloc);
+    let mut names = FunctionNames::new(alloc, None);
+    let mut all = IndexedList::new(alloc);
     for one in list {
         if let External::Declaration(tree) = one {
             defined_objects(alloc, &mut names, &mut all, tree)?;
@@ -101,11 +103,11 @@ pub(crate) fn file_objects(alloc: Global, list: &[External]) -> Result<Items<Tex
 
 /// What is fixed at file level.
 pub(crate) fn around_unit<'a>(
-    functions: &'a Items<Text>,
-    objects: &'a Items<Text>,
+    functions: &'a IndexedList<Text>,
+    objects: &'a IndexedList<Text>,
     void: &'a CType,
 ) -> Around<'a>
-    ensures { fixed result ≡ around_file functions.now objects.now void.now }
+    ensures { fixed result ≡ spec.around_file functions.now objects.now void.now }
 {
     Around {
         functions,
@@ -127,11 +129,14 @@ pub(crate) fn around_unit<'a>(
 /// # Errors
 ///
 /// `Memory` where the number of a function before it is the last below 2^32, or memory is wanting.
-pub(crate) fn number_of_main(alloc: Global, functions: &Items<Text>) -> Result<Option<u32>, Memory>
+pub(crate) fn number_of_main(
+    alloc: Global,
+    functions: &IndexedList<Text>,
+) -> Result<Option<u32>, Memory>
     ensures { IfOk result (λ n. n ≡ scopes.number_in 0 functions.now declarations.main) }
 {
     let main = Text::from_vec(Vec::from_slice(alloc, MAIN)?);
-    number_in(functions.as_slice(), &main)
+    number_in(functions, &main)
 }
 
 /// The typed tree of a unit, of what was found at its end.
@@ -142,22 +147,51 @@ pub(crate) fn number_of_main(alloc: Global, functions: &Items<Text>) -> Result<O
 pub(crate) fn typed_unit(
     alloc: Global,
     state: State,
-    objects: &Items<Text>,
+    objects: &IndexedList<Text>,
     functions: Items<TFunction>,
     main: u32,
 ) -> Result<Typed, Memory>
     ensures { IfOk result (λ t. t ≡ typed_of_parts state objects.now functions main) }
 {
-    let mut all = Items::new(alloc);
-    for name in objects.as_slice() {
-        all.push(file_object(alloc, &state, name)?)?;
-    }
-    all.append(state.statics)?;
+    let all = typed_objects(alloc, &state, objects);
+    let mut state = state;
+    let statics = mem::replace(&mut state.statics, Items::new(alloc));
+    drop(state);
+    let Ok(mut all) = all else {
+        drop((statics, functions));
+        return Err(Memory);
+    };
+    let Ok(()) = all.append(statics) else {
+        drop((all, functions));
+        return Err(Memory);
+    };
     Ok(Typed {
         objects: all,
         functions,
         main,
     })
+}
+
+/// File-level objects with the types that all their declarations tell.
+fn typed_objects(
+    alloc: Global,
+    state: &State,
+    names: &IndexedList<Text>,
+) -> Result<Items<StaticObject>, Memory>
+    ensures { IfOk result (λ all. all ≡ map (spec.file_object state.now) names.now) }
+{
+    let mut all = Items::new(alloc);
+    for name in names.as_slice() {
+        let Ok(object) = file_object(alloc, state, name) else {
+            drop(all);
+            return Err(Memory);
+        };
+        let Ok(()) = all.push(object) else {
+            drop(all);
+            return Err(Memory);
+        };
+    }
+    Ok(all)
 }
 
 /// A file-level object with the type that all its declarations tell.

@@ -1,5 +1,5 @@
 -- Conversions of integer types, and how a value of a type is kept (C11 6.3.1, 6.2.6).
-use Rattle.std.specs.Prelude.{ℕ, nat_lt, nat_le, Bool, true, false, not, if◌then◌else◌, Option, Some, None}
+use Rattle.std.specs.Prelude.{ℕ, nat_lt, nat_le, Bool, true, false, if◌then◌else◌, Option, Some, None}
 use Rattle.word_ops.specs.declared.operation.Width.{Width}
 use Rattle.word_ops.specs.declared.operation.Width.TheVariants as width
 use Rattle.c_tree.specs.declared.token.IntKind.{IntKind}

@@ -1,6 +1,6 @@
 -- Declarations (C11 6.7): what a declarator with its initialiser declares, where and with which linkage (6.2.2), and when a second
 -- declaration may stand.
-use Rattle.std.specs.Prelude.{ℕ, ◌+◌, nat_lt, Bool, true, false, ◌&&◌, ◌||◌, not, if◌then◌else◌, ◌^◌, List, [], ◌∷◌, ◌++◌, Option, Some, None, length, map, is_some, slice_set, unwrap_or}
+use Rattle.std.specs.Prelude.{ℕ, ◌+◌, nat_lt, Bool, true, false, ◌&&◌, ◌||◌, not, if◌then◌else◌, List, [], ◌∷◌, ◌++◌, Option, Some, None, length, map, is_some, slice_set, unwrap_or, codes}
 use Rattle.std.specs.List.{list_any}
 use Rattle.std.specs.Option.{option_map}
 use Rattle.std.specs.Str.{bytes_eq}
@@ -22,11 +22,11 @@ use Rattle.c_tree.specs.declared.typed.unit.StaticPart.{StaticPart}
 use Rattle.c_layout.specs.Tags.{Structs}
 use Rattle.c_layout.specs.Sizes.{size_of, alignment_of}
 use Rattle.c_typing.specs.Faults.{Fault}
-use Rattle.c_typing.specs.Types.{in_word, int, void, derived_from, Shape, ArrayOf, shape, is_function, is_void, is_constant, compatible, same_type, composite}
+use Rattle.c_typing.specs.Types.{in_word, most_bytes, int, void, derived_from, Shape, ArrayOf, shape, is_function, is_void, is_constant, compatible, same_type, composite}
 use Rattle.c_typing.specs.Conversions.{scalar_of}
 use Rattle.c_typing.specs.Scopes.{Name, Meaning, TypedefOf, Automatic, Static, Linked, Unknown, Linkage, Around, State, Walk, give, unasked, tell, ◌>>=◌, asked, both_asked, beside, fault_if, unless, here, change, latest, declaring, own_meaning}
 use Rattle.c_typing.specs.Expressions.{getchar, putchar, is_library}
-use Rattle.c_typing.specs.Declarators.{Declaring, Specified, Basis, Specifying, Storing, Using, declared_type, complete_row, first_token, specifiers_row}
+use Rattle.c_typing.specs.Declarators.{Declaring, Specified, Basis, Specifying, Storing, Using, basis_type, is_register, declared_type, complete_row, first_token, specifiers_row}
 use Rattle.c_typing.specs.Trees.{specifier_typing, declarator_typing}
 use Rattle.c_typing.specs.OfInitialisers.{Filled, Initialising}
 use Rattle.c_typing.specs.Initialisers.{initialiser_typing}
@@ -81,7 +81,7 @@ fillable_row at t = if is_open_shape (shape t) then give t else complete_row at 
 
 -- the whole has at most 2^24 bytes, where the initialiser has told its size
 abbrev pub sized_row : Pos → CType → Walk CType
-sized_row at t = here (λ c s. unless (nat_lt (2 ^ 24) (unwrap_or (size_of s.structs t) 0)) kind.TooLarge at (give t))
+sized_row at t = here (λ c s. unless (nat_lt most_bytes (unwrap_or (size_of s.structs t) 0)) kind.TooLarge at (give t))
 
 -- ---- second declarations
 
@@ -137,7 +137,7 @@ abbrev pub breaks_library : Name → (defines : Bool) → CType → Bool
 breaks_library name defines u = is_library name && (defines || not (compatible u (library_type name)))
 
 abbrev pub main : Name
-main = 109 ∷ 97 ∷ 105 ∷ 110 ∷ []
+main = codes "main"
 
 -- `main` takes nothing and returns an int (5.1.2.2.1p1)
 abbrev pub wrong_main : Around → Identifier → CType → List Fault
@@ -207,10 +207,6 @@ abbrev pub automatic_start : Identifier → (place number : ℕ) → Bool → Op
 automatic_start id place n r None u = complete_row id.place u >>= λ v. owned u n (asked v (λ v. give []))
 automatic_start id place n r (Some start) u = fillable_row id.place u >>= λ v. asked v (λ v.
     start.fill 0 v >>= λ f. asked f (automatic_filled id v place n r))
-
-abbrev pub is_register : Option Storage → Bool
-is_register (Some storage.Register) = true
-is_register o = false
 
 abbrev pub automatic_row : Identifier → Bool → CType → Option Initialising → Walk Made
 automatic_row id r u start = here (λ c s.
@@ -294,9 +290,6 @@ declared_if b makes None start u = unasked
 declared_if (Some b) makes (Some id) start (Some u) = declared_row b.storage id start u
 declared_if b makes (Some id) start u = here (λ c s.
     untyped_row (is_typedef (storage_of b)) (c.at_file_level || (is_extern (storage_of b) || makes)) id)
-
-abbrev pub basis_type : Basis → CType
-basis_type b = b.ctype
 
 abbrev pub init_declarator_row : Pos → Option Basis → Beginning → Walk Made
 init_declarator_row first b d =

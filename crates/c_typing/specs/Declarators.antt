@@ -18,9 +18,9 @@ use Rattle.c_layout.specs.declared.tags.StructLayout.{StructLayout}
 use Rattle.c_layout.specs.Sizes.{size_of}
 use Rattle.c_layout.specs.Structures.{Declared, layout}
 use Rattle.c_typing.specs.Faults.{Fault, fault}
-use Rattle.c_typing.specs.Types.{plain, pointer_to, derived_from, constant_if, Shape, ArrayOf, is_integer, is_function, is_array, unqualified}
+use Rattle.c_typing.specs.Types.{most_bytes, plain, pointer_to, derived_from, constant_if, Shape, ArrayOf, is_integer, is_function, is_array, unqualified}
 use Rattle.c_typing.specs.Conversions.{is_signed}
-use Rattle.c_typing.specs.Scopes.{Name, Meaning, TypedefOf, EnumeratorOf, Unknown, Tag, StructTag, EnumTag, State, Walk, give, unasked, tell, offer, ◌>>=◌, asked, both_asked, beside, fault_if, unless, here, change, joined, in_row, latest, declaring, tagging, own_meaning, own_tag}
+use Rattle.c_typing.specs.Scopes.{Name, Meaning, TypedefOf, EnumeratorOf, Unknown, Tag, StructTag, EnumTag, State, Walk, give, unasked, tell, offer, ◌>>=◌, asked, both_asked, beside, fault_if, unless, here, change, joined, in_row, meaning_of, tag_of, declaring, tagging, own_meaning, own_tag}
 pub use Rattle.c_typing.specs.declared.declarator.Parameter.{Parameter}
 pub use Rattle.c_typing.specs.declared.declarator.Part.{Part}
 pub use Rattle.c_typing.specs.declared.declarator.Part.TheVariants.{Pointing, Arraying, SomeArray, Listing, SomeFunction}
@@ -104,7 +104,7 @@ count_row bracket first o = constant_row first o >>= λ n. asked n (λ n. unless
 abbrev pub array_if : Pos → CType → Option ℕ → (size : Option ℕ) → Walk CType
 array_if at t count None = tell kind.Incomplete at
 array_if at t None (Some n) = give (derived_from t (derived.Array None))
-array_if at t (Some k) (Some n) = unless (nat_lt (2 ^ 24) (k * n)) kind.TooLarge at (give (derived_from t (derived.Array (Some k))))
+array_if at t (Some k) (Some n) = unless (nat_lt most_bytes (k * n)) kind.TooLarge at (give (derived_from t (derived.Array (Some k))))
 
 abbrev pub array_row : Pos → Option ℕ → CType → Walk CType
 array_row at count t = unless (is_function t) kind.FunctionUse at (here (λ c s. array_if at t count (size_of s.structs t)))
@@ -238,7 +238,7 @@ typedef_meant id (Some Unknown) = unasked
 typedef_meant id m = tell kind.Undeclared id.place
 
 abbrev pub typedef_name_row : Identifier → Walk CType
-typedef_name_row id = here (λ c s. typedef_meant id (latest s.names id.text))
+typedef_name_row id = here (λ c s. typedef_meant id (meaning_of s id.text))
 
 abbrev pub with_type : Parts → Option CType → Parts
 with_type r t = record r { types = r.types ++ t ∷ [] }
@@ -260,6 +260,11 @@ is_of_block storage.Auto = true
 is_of_block storage.Register = true
 is_of_block s = false
 
+-- `register` (6.7.1p6)
+abbrev pub is_register : Option Storage → Bool
+is_register (Some storage.Register) = true
+is_register k = false
+
 abbrev pub first_storage : List Storage → Option Storage
 first_storage [] = None
 first_storage (s ∷ ss) = Some s
@@ -273,6 +278,9 @@ named_type at r [] (Some b) = give (basis r (plain b))
 named_type at r [] None = tell kind.BadSpecifier at
 named_type at r (t ∷ []) b = if nat_lt 0 (length r.words) then tell kind.BadSpecifier at else asked t (λ t. give (basis r t))
 named_type at r (t ∷ u ∷ ts) b = tell kind.BadSpecifier at
+
+abbrev pub basis_type : Basis → CType
+basis_type b = b.ctype
 
 abbrev pub basis_of : Pos → Parts → Walk Basis
 basis_of at r = here (λ c s.
@@ -307,7 +315,7 @@ struct_meant tag None =
 
 -- `struct` and a tag: alone it declares the tag in this scope (p7)
 abbrev pub struct_tag_row : Identifier → Bool → Walk CType
-struct_tag_row tag alone = here (λ c s. struct_meant tag (if alone then own_tag c s tag.text else latest s.tags tag.text))
+struct_tag_row tag alone = here (λ c s. struct_meant tag (if alone then own_tag c s tag.text else tag_of s tag.text))
 
 -- `enum` and a tag, which is visible, behind its list (p3)
 abbrev pub enum_meant : Identifier → Option Tag → Walk CType
@@ -317,7 +325,7 @@ enum_meant tag (Some (StructTag n listed)) = tell kind.Redeclared tag.place
 enum_meant tag None = tell kind.Undeclared tag.place
 
 abbrev pub enum_tag_row : Identifier → Walk CType
-enum_tag_row tag = here (λ c s. enum_meant tag (latest s.tags tag.text))
+enum_tag_row tag = here (λ c s. enum_meant tag (tag_of s tag.text))
 
 -- ---- structures (6.7.2.1)
 
@@ -358,7 +366,7 @@ as_declared [] = Some []
 as_declared (m ∷ ms) = joined (option_map (λ t. (m.0.text, t)) m.1) (as_declared ms)
 
 abbrev pub completed : Pos → ℕ → StructLayout → Walk CType
-completed at n l = unless (nat_lt (2 ^ 24) l.size) kind.TooLarge at (change (layout_set n l) (give (struct_type n)))
+completed at n l = unless (nat_lt most_bytes l.size) kind.TooLarge at (change (layout_set n l) (give (struct_type n)))
 
 abbrev pub members_row : Pos → ℕ → Members → Walk CType
 members_row at n ms = here (λ c s.
@@ -380,7 +388,7 @@ member_named None t = give []
 -- one declarator of members
 abbrev pub one_member : Option Basis → Declaring → Walk Members
 one_member b d =
-    declared_type d false nowhere (option_map (λ b. b.ctype) b) >>= member_named d.name
+    declared_type d false nowhere (option_map basis_type b) >>= member_named d.name
 
 -- ---- enumerations (6.7.2.2)
 

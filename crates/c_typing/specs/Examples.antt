@@ -1,3 +1,5 @@
+-- Closed cases of typing, worked out by the definition: what each kind of tree gives, and which fault a source has first.
+-- No contract cites them.
 pub mod Read
 pub mod Expressions
 pub mod Operators

@@ -1,6 +1,5 @@
 -- The rows of expressions: what each operator says of its operands, and the typed tree that it makes (C11 6.5).
-use Rattle.std.specs.Prelude.{ℕ, zero, suc, ◌+◌, ◌==◌, ◌^◌, nat_lt, Bool, true, false, ◌&&◌, ◌||◌, not, if◌then◌else◌, List, [], ◌∷◌, ◌++◌, Option, Some, None, length, map, is_none, slice_get, unwrap_or}
-use Rattle.std.specs.List.{list_any}
+use Rattle.std.specs.Prelude.{ℕ, ◌+◌, ◌==◌, nat_lt, Bool, true, false, ◌&&◌, ◌||◌, not, if◌then◌else◌, List, [], ◌∷◌, ◌++◌, Option, Some, None, length, map, is_none, slice_get, unwrap_or, codes}
 use Rattle.std.specs.Str.{bytes_eq}
 use Rattle.c_tree.specs.declared.token.Pos.{Pos}
 use Rattle.c_tree.specs.declared.token.Punct.{Punct}
@@ -29,14 +28,13 @@ use Rattle.c_tree.specs.declared.typed.unit.StaticObject.{StaticObject}
 use Rattle.c_tree.specs.declared.typed.unit.StaticPart.{StaticPart}
 use Rattle.c_tree.specs.declared.typed.unit.StaticPart.TheVariants as part
 use Rattle.c_layout.specs.declared.tags.MemberLayout.{MemberLayout}
-use Rattle.c_layout.specs.declared.tags.StructLayout.{StructLayout}
-use Rattle.c_layout.specs.Tags.{Structs, layout_of}
+use Rattle.c_layout.specs.Tags.{Structs}
 use Rattle.c_layout.specs.Sizes.{size_of}
 use Rattle.c_layout.specs.Structures.{member_of}
 use Rattle.c_typing.specs.Faults.{Fault, fault}
-use Rattle.c_typing.specs.Types.{in_word, int, unsigned, void, plain, pointer_to, derived_from, constant_if, Shape, FunctionOf, shape, is_integer, is_pointer, is_void, is_struct, is_bool, is_scalar, is_array, is_function, is_constant, unqualified, alike}
+use Rattle.c_typing.specs.Types.{in_word, most_bytes, int, unsigned, void, plain, pointer_to, derived_from, constant_if, Shape, FunctionOf, shape, is_integer, is_pointer, is_void, is_struct, is_bool, is_scalar, is_array, is_function, is_constant, unqualified, alike}
 use Rattle.c_typing.specs.Conversions.{scalar_of}
-use Rattle.c_typing.specs.Scopes.{Name, Meaning, TypedefOf, EnumeratorOf, Automatic, Static, Linked, Unknown, State, Walk, give, unasked, tell, offer, ◌>>=◌, asked, both_asked, beside, fault_if, unless, unready_if, here, change, latest, number_in}
+use Rattle.c_typing.specs.Scopes.{Name, Meaning, TypedefOf, EnumeratorOf, Automatic, Static, Linked, Unknown, State, Walk, give, unasked, tell, offer, ◌>>=◌, asked, both_asked, beside, fault_if, unless, unready_if, here, change, meaning_of, number_in}
 use Rattle.c_typing.specs.Operands.{Operand, Form, Value, Place, Named, tree_of, operand, value, number, then_step, then_unary, is_lvalue, in_register, numbered, as_form, valued, dropping, is_null_constant, converted, conversion_to, target_of, is_assignable}
 use Rattle.c_typing.specs.Operators.{Plan, Row, Other, Wrong, Planned, promoted_type, promoted_sign, pointer_and_integer, integer_and_pointer, plus_stride, stride_plus, first_row, binary, contained, chosen}
 
@@ -59,7 +57,7 @@ meant id (Some (TypedefOf t)) = tell kind.Undeclared id.place
 meant id (Some Unknown) = unasked
 
 abbrev pub name_row : Identifier → Walk Operand
-name_row id = here (λ c s. meant id (latest s.names id.text))
+name_row id = here (λ c s. meant id (meaning_of s id.text))
 
 -- ---- constants (6.5.1, 6.4.5p6)
 
@@ -78,7 +76,7 @@ string_object bytes = record {
 }
 
 abbrev pub string_row : Pos → List ℕ → Walk Operand
-string_row at bytes = unless (nat_lt (2 ^ 24) (length bytes + 1)) kind.TooLarge at (here (λ c s.
+string_row at bytes = unless (nat_lt most_bytes (length bytes + 1)) kind.TooLarge at (here (λ c s.
     change (λ s. record s { statics = s.statics ++ string_object bytes ∷ [] })
     (give (operand Place (string_type bytes) (x.Primary (string_type bytes) (primary.Static (length c.objects + length s.statics)))))))
 
@@ -86,7 +84,7 @@ string_row at bytes = unless (nat_lt (2 ^ 24) (length bytes + 1)) kind.TooLarge 
 
 abbrev pub size_if : Pos → Option ℕ → Walk Operand
 size_if at None = tell kind.Incomplete at
-size_if at (Some n) = unless (nat_lt (2 ^ 24) n) kind.TooLarge at (give (number unsigned n))
+size_if at (Some n) = unless (nat_lt most_bytes n) kind.TooLarge at (give (number unsigned n))
 
 abbrev pub size_row : Pos → CType → Walk Operand
 size_row at t = here (λ c s. size_if at (size_of s.structs t))
@@ -283,13 +281,13 @@ call_of t f args = if is_void t then value void (x.DroppedCall void f args) else
 
 -- the library (7.21.7.6, 7.21.7.8, 7.22.4.4)
 abbrev pub getchar : Name
-getchar = 103 ∷ 101 ∷ 116 ∷ 99 ∷ 104 ∷ 97 ∷ 114 ∷ []
+getchar = codes "getchar"
 
 abbrev pub putchar : Name
-putchar = 112 ∷ 117 ∷ 116 ∷ 99 ∷ 104 ∷ 97 ∷ 114 ∷ []
+putchar = codes "putchar"
 
 abbrev pub exit : Name
-exit = 101 ∷ 120 ∷ 105 ∷ 116 ∷ []
+exit = codes "exit"
 
 abbrev pub is_library : Name → Bool
 is_library name = bytes_eq name getchar || (bytes_eq name putchar || bytes_eq name exit)
@@ -326,7 +324,7 @@ called id at args (Some Unknown) = unasked
 called id at args (Some m) = tell kind.BadCall at
 
 abbrev pub call_row : Identifier → Pos → List Argument → Walk Operand
-call_row id at args = here (λ c s. called id at args (latest s.names id.text))
+call_row id at args = here (λ c s. called id at args (meaning_of s id.text))
 
 -- ---- `? :` (6.5.15)
 

@@ -1,3 +1,5 @@
+-- The definition of typing, each file behind those that it cites: faults, types, scopes and operands, then the rows of
+-- each kind of tree, and at the end the whole unit. `Laws` holds proofs and `Examples` closed cases.
 pub mod Faults
 pub mod Types
 pub mod Conversions

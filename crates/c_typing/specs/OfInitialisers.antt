@@ -1,6 +1,6 @@
 -- Initialisers (C11 6.7.9): which part of an object each expression in braces initialises, where inner braces may be left out
 -- (p17 to p23). What the expressions are is told apart from where they stand.
-use Rattle.std.specs.Prelude.{ℕ, zero, suc, ◌+◌, ◌-◌, ◌*◌, ◌^◌, min, nat_lt, nat_le, Bool, false, ◌&&◌, ◌||◌, if◌then◌else◌, List, [], ◌∷◌, ◌++◌, Option, Some, None, length, slice_get, is_some, unwrap_or}
+use Rattle.std.specs.Prelude.{ℕ, zero, suc, ◌+◌, ◌-◌, ◌*◌, ◌^◌, nat_lt, nat_le, Bool, false, ◌&&◌, ◌||◌, if◌then◌else◌, List, [], ◌∷◌, ◌++◌, Option, Some, None, length, slice_get, is_some, unwrap_or}
 use Rattle.c_tree.specs.declared.token.Pos.{Pos}
 use Rattle.c_tree.specs.declared.refusal.FaultKind.TheVariants as kind
 use Rattle.c_tree.specs.declared.typed.types.Base.{Base}
@@ -9,7 +9,7 @@ use Rattle.c_tree.specs.declared.typed.types.CType.{CType}
 use Rattle.c_tree.specs.declared.declaration.Initialiser.TheOpen.{Initialiser-F, InitialiserItem-F}
 use Rattle.c_layout.specs.declared.tags.MemberLayout.{MemberLayout}
 use Rattle.c_layout.specs.Tags.{Structs, layout_of}
-use Rattle.c_layout.specs.Sizes.{size_of}
+use Rattle.c_layout.specs.Sizes.{capped, size_of}
 use Rattle.c_typing.specs.Faults.{fault}
 use Rattle.c_typing.specs.Types.{in_word, Shape, Basic, ArrayOf, shape, is_struct, is_scalar, is_character}
 use Rattle.c_typing.specs.Scopes.{Walk, give, ◌>>=◌, asked, beside, here}
@@ -88,12 +88,9 @@ part_by structs s offset i = None
 abbrev pub next_part : Structs → Frame → Option Piece
 next_part structs f = part_by structs (shape f.ctype) f.offset f.passed
 
--- a number of parts as 64 bits hold it: no list has more items
-abbrev pub in_count : ℕ → ℕ
-in_count n = min n (2 ^ 64 - 1)
-
+-- no list has more items than 64 bits count
 abbrev pub passing : Frame → Frame
-passing f = record f { passed = in_count (f.passed + 1) }
+passing f = record f { passed = capped (f.passed + 1) }
 
 -- the next part of the innermost aggregate that has one left, and the aggregates that are open behind it
 abbrev pub next_piece : Structs → List Frame → Option Piece × List Frame

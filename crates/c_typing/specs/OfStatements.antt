@@ -20,7 +20,7 @@ use Rattle.c_tree.specs.declared.typed.statement.Label.TheVariants as label
 use Rattle.c_tree.specs.declared.typed.statement.Objects.{Objects}
 use Rattle.c_tree.specs.declared.typed.unit.Object.{Object}
 use Rattle.c_typing.specs.Types.{is_integer, is_void, is_function}
-use Rattle.c_typing.specs.Scopes.{Meaning, TypedefOf, Local, State, Walk, give, unasked, tell, ◌>>=◌, asked, both_asked, beside, fault_if, unless, here, scoped, latest}
+use Rattle.c_typing.specs.Scopes.{Meaning, TypedefOf, Local, State, Walk, give, unasked, tell, ◌>>=◌, asked, both_asked, beside, fault_if, unless, here, scoped, meaning_of}
 use Rattle.c_typing.specs.Operands.{Operand, tree_of, valued, dropping, converted}
 use Rattle.c_typing.specs.Operators.{promoted_type}
 use Rattle.c_typing.specs.Expressions.{truth_row, given_row}
@@ -55,7 +55,7 @@ is_function_name (Some (TypedefOf u)) = is_function u
 is_function_name m = false
 
 abbrev pub function_names : State → FunctionNames
-function_names s name = is_function_name (latest s.names name)
+function_names s name = is_function_name (meaning_of s name)
 
 -- how many automatic objects a block declares itself
 abbrev pub count_items : FunctionNames → List Itemised → ℕ

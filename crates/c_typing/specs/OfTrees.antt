@@ -10,20 +10,18 @@ use Rattle.c_tree.specs.declared.expression.Mark.{Mark}
 use Rattle.c_tree.specs.declared.expression.Level.{Level}
 use Rattle.c_tree.specs.declared.expression.Level.TheVariants as level
 use Rattle.c_tree.specs.declared.declarator.Pointer.{Pointer}
-use Rattle.c_tree.specs.declared.specifier.Storage.{Storage}
-use Rattle.c_tree.specs.declared.specifier.Storage.TheVariants as storage
 use Rattle.c_tree.specs.declared.refusal.FaultKind.TheVariants as kind
 use Rattle.c_tree.specs.declared.typed.types.CType.{CType}
 use Rattle.c_tree.specs.declared.typed.operator.Given.TheVariants as given
 use Rattle.c_tree.specs.declared.typed.expression.TExpr.{TExpr}
 use Rattle.c_tree.specs.declared.typed.expression.TExpr.TheVariants as x
 use Rattle.c_tree.specs.declared.declarator.DeclaratorSuffix.TheOpen.{DeclaratorSuffix-F, Direct-F, Expr-F, Prefix-F, Suffix-F, Enumerator-F, Specifier-F}
-use Rattle.c_typing.specs.Types.{int, void, plain, shape}
+use Rattle.c_typing.specs.Types.{int, plain, shape}
 use Rattle.c_typing.specs.Conversions.{base_of_constant}
-use Rattle.c_typing.specs.Scopes.{Automatic, Walk, give, unasked, tell, offer, ◌>>=◌, asked, both_asked, beside, fault_if, unless, here, joined, in_row, scoped, declaring, own_meaning}
-use Rattle.c_typing.specs.Operands.{Operand, Value, tree_of, value, number, valued, dropping}
+use Rattle.c_typing.specs.Scopes.{Automatic, Walk, give, unasked, tell, offer, ◌>>=◌, asked, both_asked, beside, fault_if, unless, here, joined, in_row, scoped, in_definition, declaring, own_meaning}
+use Rattle.c_typing.specs.Operands.{Operand, tree_of, value, number, valued, dropping}
 use Rattle.c_typing.specs.Expressions.{Argument, name_row, string_row, size_row, indirection_row, address_row, promoted_row, negated, complemented, not_row, increment_row, cast_row, binary_row, truth_row, index_row, member_row, arrow_row, call_row, Chain, conditional_row, Assigned, assign_row}
-use Rattle.c_typing.specs.Declarators.{Expressed, Parameter, Part, Pointing, Arraying, Listing, array_part, function_part, Declaring, Suffixed, Storing, Qualifying, Wording, Naming, Using, Specified, Basis, TypeNamed, Enumerated, Members, count_row, declared_type, name_place, adjusted, complete_parameter, nowhere, first_token, specifiers_row, struct_tag_row, enum_tag_row, struct_row, one_member, all_members, plain_enumerator, valued_enumerator, enum_row}
+use Rattle.c_typing.specs.Declarators.{Expressed, Parameter, Part, Pointing, Arraying, Listing, array_part, function_part, Declaring, Suffixed, Storing, Qualifying, Wording, Naming, Using, Specified, Basis, TypeNamed, Enumerated, Members, basis_type, is_register, count_row, declared_type, name_place, adjusted, complete_parameter, nowhere, first_token, specifiers_row, struct_tag_row, enum_tag_row, struct_row, one_member, all_members, plain_enumerator, valued_enumerator, enum_row}
 use Rattle.c_typing.specs.Parts.{Prefixing, Marking, Sizing, Casting, Prefixed, Suffixing, Indexing, Calling, Membering, Arrowing, Changing, Operating, Branching, Listed, DeclaratorSuffixParts, DirectParts, ExprParts, PrefixParts, SuffixParts, EnumeratorParts, SpecifierParts, DeclaratorParts, ParameterParts, BranchParts, NextParts, TypeNameParts, MemberParts, MemberDeclaratorParts}
 
 -- ---- expressions
@@ -186,9 +184,6 @@ typed_next n = record { operator = n.operator; operand = n.operand }
 abbrev pub typed_branch : BranchParts → Branching
 typed_branch b = record { question = b.question; gives = b.gives; operand = b.operand }
 
-abbrev pub basis_type : Basis → CType
-basis_type b = b.ctype
-
 abbrev pub typed_type_name : TypeNameParts → TypeNamed
 typed_type_name t = record {
   typed = λ at. specifiers_row false t.specifiers >>= λ b. declared_type t.declarator false at (option_map basis_type b);
@@ -247,7 +242,7 @@ typed_direct Direct-F.Nothing = record { name = None; makes = None; parts = λ d
 typed_direct (Direct-F.Named id) = record { name = Some id; makes = None; parts = λ defining. give [] }
 typed_direct (Direct-F.Grouped from inner to) = inner
 
--- a parameter list of a declaration is a scope of its own (6.2.1p4), in which no object stands
+-- a parameter list that is not that of a definition is a scope of its own (6.2.1p4), in which no object stands
 abbrev pub in_prototype : {A : Type 0} → Walk A → Walk A
 in_prototype w c s =
     let said = scoped w (record c { at_file_level = false }) s in
@@ -258,7 +253,7 @@ parameters_row n [] = give []
 parameters_row n (q ∷ qs) = q n >>= λ a. parameters_row (n + 1) qs >>= λ rest. offer (joined a rest)
 
 abbrev pub listing : Bool → Walk (List Parameter) → Walk Part
-listing defining w = (if defining then w else in_prototype w) >>= λ ps. give (function_part ps)
+listing defining w = (if defining then in_definition w else in_prototype w) >>= λ ps. give (function_part ps)
 
 abbrev pub typed_declarator_suffix : DeclaratorSuffixParts → Suffixed
 typed_declarator_suffix (DeclaratorSuffix-F.Array from to) = record { makes = false; part = λ defining. give (Arraying None) }
@@ -272,10 +267,6 @@ typed_declarator_suffix (DeclaratorSuffix-F.Parameters from all to) =
     record { makes = true; part = λ defining. listing defining (parameters_row 0 all) }
 
 -- a parameter has no storage word but `register` (6.7.6.3p2)
-abbrev pub is_register : Option Storage → Bool
-is_register (Some storage.Register) = true
-is_register s = false
-
 abbrev pub parameter_basis : Pos → Basis → Walk Basis
 parameter_basis at b = unless (is_some b.storage && not (is_register b.storage)) kind.BadSpecifier at (give b)
 

@@ -1,14 +1,11 @@
 -- What is visible at a place of a source, what a walk over it has found so far, and what it says of a construct: its faults, and
 -- what it is, where no fault other than NoBody stands in it (C11 6.2.1 to 6.2.4).
-use Rattle.std.specs.Prelude.{ℕ, ◌+◌, Bool, if◌then◌else◌, List, [], ◌∷◌, ◌++◌, Option, Some, None, find, reverse, length, take, drop}
+use Rattle.std.specs.Prelude.{ℕ, ◌+◌, Bool, false, if◌then◌else◌, List, [], ◌∷◌, ◌++◌, Option, Some, None, find, reverse, length, take, drop}
 use Rattle.std.specs.Option.{option_map}
 use Rattle.std.specs.Str.{bytes_eq}
 use Rattle.c_tree.specs.declared.token.Pos.{Pos}
 use Rattle.c_tree.specs.declared.refusal.FaultKind.{FaultKind}
 use Rattle.c_tree.specs.declared.typed.types.CType.{CType}
-use Rattle.c_tree.specs.declared.typed.unit.StaticObject.{StaticObject}
-use Rattle.c_tree.specs.declared.typed.unit.StaticPart.{StaticPart}
-use Rattle.c_layout.specs.Tags.{Structs}
 use Rattle.c_typing.specs.Faults.{Fault, fault}
 pub use Rattle.c_typing.specs.declared.scope.Meaning.{Meaning}
 pub use Rattle.c_typing.specs.declared.scope.Meaning.TheVariants.{TypedefOf, EnumeratorOf, Automatic, Static, Linked, Unknown}
@@ -16,6 +13,7 @@ pub use Rattle.c_typing.specs.declared.scope.Tag.{Tag}
 pub use Rattle.c_typing.specs.declared.scope.Tag.TheVariants.{StructTag, EnumTag}
 pub use Rattle.c_typing.specs.declared.scope.Local.{Local}
 pub use Rattle.c_typing.specs.declared.scope.Linkage.{Linkage}
+pub use Rattle.c_typing.specs.declared.scope.Scope.{Scope}
 pub use Rattle.c_typing.specs.declared.scope.State.{State}
 
 -- the text of a name
@@ -29,7 +27,7 @@ pub record Around : Type 0 where
   pub objects : List Name
   -- at file level, and not in a function
   pub at_file_level : Bool
-  -- how many ordinary identifiers and tags were visible where the present scope begins
+  -- how many of the ordinary identifiers and tags stand before the present scope
   pub names_from : ℕ
   pub tags_from : ℕ
   -- the place of the first object of the present block, and that of the first object of a block in it
@@ -126,11 +124,41 @@ scoped w c s =
     let said = w (record c { names_from = length s.names; tags_from = length s.tags }) s in
     record { faults = said.faults; given = said.given; state = closed s said.state }
 
+-- the scope of the parameters and of the outermost block of a function definition: it begins with the parameter list beside the name,
+-- is left at the end of that list, and is entered again with the block, so that what stands between them is at file scope (6.2.1p4)
+abbrev pub no_scope : Scope
+no_scope = record { names = []; tags = [] }
+
+abbrev pub entered : State → State
+entered s = record s { names = s.listed.names; tags = s.listed.tags; outer = record { names = s.names; tags = s.tags }; listed = no_scope }
+
+abbrev pub left : State → State
+left s = record s { names = s.outer.names; tags = s.outer.tags; outer = no_scope; listed = record { names = s.names; tags = s.tags } }
+
+abbrev pub in_definition : {A : Type 0} → Walk A → Walk A
+in_definition w c s =
+    let said = w (record c { at_file_level = false; names_from = 0; tags_from = 0 }) (entered s) in
+    record { faults = said.faults; given = said.given; state = left said.state }
+
 -- ---- names
 
 -- what stands for a name: the last pair of it counts
 abbrev pub latest : {V : Type 0} → List (Name × V) → Name → Option V
 latest pairs name = option_map (λ pair. pair.1) (find (λ pair. bytes_eq pair.0 name) (reverse pairs))
+
+-- what is visible, the oldest first: what file scope has declared, and what the scopes in it have
+abbrev pub visible_names : State → List (Name × Meaning)
+visible_names s = s.outer.names ++ s.names
+
+abbrev pub visible_tags : State → List (Name × Tag)
+visible_tags s = s.outer.tags ++ s.tags
+
+-- what a name and a tag stand for here (6.2.1p2, 6.2.3)
+abbrev pub meaning_of : State → Name → Option Meaning
+meaning_of s name = latest (visible_names s) name
+
+abbrev pub tag_of : State → Name → Option Tag
+tag_of s name = latest (visible_tags s) name
 
 -- the place of a name in a list
 abbrev pub number_in : ℕ → List Name → Name → Option ℕ

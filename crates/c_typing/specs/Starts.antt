@@ -166,17 +166,21 @@ operand_address sizes o = after_steps sizes o.base [] o.steps (address_of sizes 
 
 -- ---- null pointers (6.3.2.3p3, p4): the constant, cast to other pointers or not
 
+-- a conversion of a pointer to another pointer type (6.3.2.3p1, p7)
 abbrev pub is_pointer_cast : Step → Bool
 is_pointer_cast (step.Unary (unary.Convert conversion.Pointer)) = true
 is_pointer_cast s = false
 
+-- a null pointer, cast to other pointer types by all of its steps
 abbrev pub is_null_behind : TExpr → List Step → Bool
 is_null_behind a steps = is_null a && list_all is_pointer_cast steps
 
+-- the same of a whole tree
 abbrev pub is_null_pointer : TExpr → Bool
 is_null_pointer (x.Applied' t p (more_of-TExpr a end_of-TExpr) n steps) = is_null_behind a (items-the_row-Step _ steps)
 is_null_pointer e = is_null e
 
+-- a pointer in a static object: null by no part, since its bytes are zero, or an address constant (6.6p9, 6.7.9p10)
 abbrev pub address_parts : Pos → ℕ → Option Address → Walk (List StaticPart)
 address_parts first offset None = tell kind.NotConstant first
 address_parts first offset (Some a) = give (part.Address offset a.object a.offset ∷ [])
@@ -185,6 +189,7 @@ abbrev pub pointer_parts : Pos → ℕ → TExpr → Walk (List StaticPart)
 pointer_parts first offset e =
     if is_null_pointer e then give [] else here (λ c s. address_parts first offset (address_of (static_size c s) e))
 
+-- a value of scalar type in a static object, by the number that it is where it is constant (6.6p7, 6.7.9p4)
 abbrev pub value_parts : Pos → ℕ → Option Scalar → TExpr → Option ℕ → Walk (List StaticPart)
 value_parts first offset (Some scalar.Pointer) e n = pointer_parts first offset e
 value_parts first offset (Some k) e (Some n) = give (number_parts offset k n)
@@ -222,11 +227,13 @@ is_constant_start c s o =
 abbrev pub not_constant : Pos → CType → Operand → Walk (List StaticPart)
 not_constant first t o = beside (fault kind.NotConstant first ∷ []) (given_row first t o >>= λ e. unasked)
 
+-- what a constant begins a static object with; a pointer begins a `_Bool` with its truth (6.3.1.2, 6.7.9p11)
 abbrev pub constant_start : Pos → ℕ → CType → Operand → Walk (List StaticPart)
 constant_start first offset t o =
     if is_bool t && points o then pointer_truth first offset (tree_of (valued o))
     else (given_row first t o >>= λ e. asked e (λ e. value_parts first offset (scalar_of t) e (constant_of e)))
 
+-- what an expression begins a static object with (6.7.9p4)
 abbrev pub given_start : Pos → ℕ → CType → Operand → Walk (List StaticPart)
 given_start first offset t o =
     here (λ c s. if is_constant_start c s o then constant_start first offset t o else not_constant first t o)

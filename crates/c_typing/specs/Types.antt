@@ -1,13 +1,16 @@
 -- Types: how they are made, which kinds there are, and which are compatible (C11 6.2.5, 6.2.7, 6.7.3, 6.7.6).
-use Rattle.std.specs.Prelude.{ℕ, ◌+◌, ◌-◌, ◌^◌, min, ◌==◌, Bool, true, false, ◌&&◌, ◌||◌, not, if◌then◌else◌, List, [], ◌∷◌, ◌++◌, Option, Some, None, reverse}
-use Rattle.c_tree.specs.declared.token.IntKind.TheVariants as number
+use Rattle.std.specs.Prelude.{ℕ, ◌-◌, ◌^◌, min, ◌==◌, Bool, true, false, ◌&&◌, ◌||◌, not, if◌then◌else◌, List, [], ◌∷◌, ◌++◌, Option, Some, None, reverse}
 use Rattle.c_tree.specs.declared.typed.types.Base.{Base}
 use Rattle.c_tree.specs.declared.typed.types.Base.TheVariants as base
 use Rattle.c_tree.specs.declared.typed.types.Derived.{Derived, Row_of-CType, end_of-CType, more_of-CType, Row_of-Derived, end_of-Derived, more_of-Derived, items-the_row-CType}
 use Rattle.c_tree.specs.declared.typed.types.Derived.TheVariants as derived
 use Rattle.c_tree.specs.declared.typed.types.CType.{CType, out-CType, roll-CType}
 
--- a number of bytes as 32 bits hold it: a type has at most 2^24, since a larger one is TooLarge where it is made
+-- a type has at most so many bytes; a larger one is TooLarge where it is made
+abbrev pub most_bytes : ℕ
+most_bytes = 2 ^ 24
+
+-- a number of bytes as 32 bits hold it
 abbrev pub in_word : ℕ → ℕ
 in_word n = min n (2 ^ 32 - 1)
 
@@ -289,14 +292,32 @@ same_type t u = agree by_identity t u
 abbrev pub alike : CType → CType → Bool
 alike t u = compatible (bare t) (bare u)
 
--- the type of two compatible ones: an array has the number of elements that either tells (6.2.7p3)
-abbrev pub composite_derived : Derived → Derived → Derived
-composite_derived (derived.Array None) d = d
-composite_derived d e = d
+-- ---- the composite type of two compatible ones (C11 6.2.7p3)
 
-abbrev pub composite_list : List Derived → List Derived → List Derived
-composite_list (d ∷ ds) (e ∷ es) = composite_derived d e ∷ composite_list ds es
-composite_list ds es = ds
+abbrev mutual
+  -- an array has the number of elements that either tells, and a function the composite types of its parameters
+  pub composite_derived : Derived → Derived → Derived
+  composite_derived (derived.Array None) (derived.Array n) = derived.Array n
+  composite_derived (derived.Function' m ps) (derived.Function' n qs) = derived.Function' m (composite_types ps qs)
+  composite_derived d e = d
+
+  -- the derivations of a type, each with that of the other one
+  pub composite_derivations : {m n : _} → Row_of-Derived m → Row_of-Derived n → Row_of-Derived m
+  composite_derivations (more_of-Derived d ds) (more_of-Derived e es) =
+      more_of-Derived (composite_derived d e) (composite_derivations ds es)
+  composite_derivations ds es = ds
+
+  -- the types of parameters, each with that of the other list
+  pub composite_types : {m n : _} → Row_of-CType m → Row_of-CType n → Row_of-CType m
+  composite_types (more_of-CType b c m ds ts) (more_of-CType d k n es us) =
+      more_of-CType b c m (composite_derivations ds es) (composite_types ts us)
+  composite_types ts us = ts
+
+-- a list in which each item was put together with that of another list
+abbrev pub with_each : {A : Type 0} → (A → A → A) → List A → List A → List A
+with_each f (x ∷ xs) (y ∷ ys) = f x y ∷ with_each f xs ys
+with_each f xs ys = xs
 
 abbrev pub composite : CType → CType → CType
-composite t u = made (out-CType t).base (out-CType t).constant (composite_list (out-CType t).derived (out-CType u).derived)
+composite t u =
+    made (out-CType t).base (out-CType t).constant (with_each composite_derived (out-CType t).derived (out-CType u).derived)

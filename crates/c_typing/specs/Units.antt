@@ -1,5 +1,5 @@
 -- The faults of a unit and its typed tree (C11 6.9): one walk over the unit tells both.
-use Rattle.std.specs.Prelude.{ℕ, ◌+◌, true, false, ◌||◌, not, if◌then◌else◌, List, [], ◌∷◌, ◌++◌, Option, Some, None, length, map, take, drop, is_none, unwrap_or}
+use Rattle.std.specs.Prelude.{ℕ, ◌+◌, true, false, ◌||◌, not, if◌then◌else◌, List, [], ◌∷◌, ◌++◌, Option, Some, None, length, map, is_none, unwrap_or}
 use Rattle.std.specs.List.{list_any}
 use Rattle.std.specs.Option.{option_map}
 use Rattle.std.specs.Str.{bytes_eq}
@@ -13,6 +13,7 @@ use Rattle.c_tree.specs.declared.unit.Unit as tree
 use Rattle.c_tree.specs.declared.typed.types.CType.{CType}
 use Rattle.c_tree.specs.declared.typed.statement.TStmt.{TStmt}
 use Rattle.c_tree.specs.declared.typed.statement.TStmt.TheVariants as t
+use Rattle.c_tree.specs.declared.typed.statement.Objects.{Objects}
 use Rattle.c_tree.specs.declared.typed.unit.Object.{Object}
 use Rattle.c_tree.specs.declared.typed.unit.StaticObject.{StaticObject}
 use Rattle.c_tree.specs.declared.typed.unit.TFunction.{TFunction}
@@ -21,11 +22,11 @@ use Rattle.c_tree.specs.Spelling.Units.{definition_spelling}
 use Rattle.c_typing.specs.Faults.{Fault, first_of}
 use Rattle.c_typing.specs.Types.{void, Shape, FunctionOf, shape, is_struct}
 use Rattle.c_typing.specs.Conversions.{scalar_of}
-use Rattle.c_typing.specs.Scopes.{Name, Linked, Unknown, Around, State, Said, Walk, give, unasked, ◌>>=◌, asked, both_asked, beside, fault_if, unless, unready_if, here, change, closed, latest, declaring, own_meaning, number_in}
-use Rattle.c_typing.specs.Declarators.{Parameter, Part, Listing, Declaring, Specified, Basis, derive, name_place, first_token, specifiers_row}
+use Rattle.c_typing.specs.Scopes.{Name, Unknown, Around, State, Said, Walk, no_scope, give, unasked, ◌>>=◌, asked, both_asked, beside, fault_if, unless, here, change, in_definition, latest, declaring, own_meaning, number_in}
+use Rattle.c_typing.specs.Declarators.{Parameter, Part, Listing, Declaring, Specified, Basis, basis_type, derive, name_place, first_token, specifiers_row}
 use Rattle.c_typing.specs.Expressions.{is_library}
 use Rattle.c_typing.specs.Trees.{specifier_typing, declarator_typing}
-use Rattle.c_typing.specs.Declarations.{allows_untyped_linked, is_defined, FunctionNames, Declared, declared_of, object_of, static_object, composed, linked_faults, main, basis_type, is_typedef, name_of, declaration_row, defined_objects}
+use Rattle.c_typing.specs.Declarations.{Made, allows_untyped_linked, is_defined, FunctionNames, Declared, declared_of, object_of, static_object, linked, linked_faults, main, is_typedef, name_of, declaration_row, defined_objects}
 use Rattle.c_typing.specs.OfStatements.{Blocked, is_addressed, function_names, count_items, items_row, owning}
 use Rattle.c_typing.specs.Statements.{block_typing}
 
@@ -42,72 +43,49 @@ abbrev pub result_of_shape : Shape → CType
 result_of_shape (FunctionOf ps u) = u
 result_of_shape s = void
 
--- in the scope of the function's outermost block, which its parameter list begins (6.2.1p4)
-abbrev pub in_function : {A : Type 0} → (names_from tags_from : ℕ) → Walk A → Walk A
-in_function n m w c s = w (record c { at_file_level = false; names_from = n; tags_from = m }) s
-
 -- the derivations of the declarator, and the type of the function
 abbrev pub header : Pos → Option Basis → Declaring → Walk (List Part × CType)
 header at b d =
     d.parts true >>= λ ds. both_asked ds (option_map basis_type b) (derive at) >>= λ u. both_asked ds u (λ ds u. give (ds, u))
 
 -- parameters of structure types have no typed tree yet
-abbrev pub parameters_ready : {A : Type 0} → List Parameter → Walk A → Walk A
-parameters_ready [] w = w
-parameters_ready (q ∷ qs) w = unready_if (is_struct q.ctype) kind.StructValue (name_place q.name q.first) (parameters_ready qs w)
-
--- the function's own name stands outside of the scope of its parameters
-abbrev pub named_outside : ℕ → Name → CType → State → State
-named_outside n name u s =
-    let v = composed u (latest s.linked name) in
-    record s { names = take n s.names ++ ((name, Linked v) ∷ drop n s.names); linked = s.linked ++ (name, record { ctype = v; defined = true }) ∷ [] }
+abbrev pub readied : List Parameter → State → State
+readied [] s = s
+readied (q ∷ qs) s =
+    readied qs (record s { unready = s.unready ++ fault_if (is_struct q.ctype) kind.StructValue (name_place q.name q.first) })
 
 -- no object of a function is declared yet but its parameters
-abbrev pub entered : ℕ → State → State
-entered n s = record s { declared = n; own = []; addressed = [] }
+abbrev pub begun : (parameters : ℕ) → State → State
+begun n s = record s { declared = n; own = []; addressed = [] }
+
+-- none is left behind its block
+abbrev pub ended : State → State
+ended s = record s { declared = 0; own = []; addressed = [] }
 
 abbrev pub parameter_objects : State → ℕ → List Parameter → List Object
 parameter_objects s n [] = []
 parameter_objects s n (q ∷ qs) = object_of s.structs (is_addressed s n) q.ctype ∷ parameter_objects s (n + 1) qs
 
-abbrev pub function_made : ℕ → CType → List Parameter → (TStmt × State) → TFunction
-function_made tokens u ps body = record {
-  result = u;
-  scalar = scalar_of u;
-  parameters = parameter_objects body.1 0 ps;
-  body = body.0;
-  tokens = tokens;
-}
+-- the items of the block, and the objects that it declares
+abbrev pub owned_row : Blocked → Walk (Objects × Made)
+owned_row items c s = owning (count_items (function_names s) items) (items_row items) c s
 
--- the body, and what was found at its end
-abbrev pub body_row : ℕ → CType → Blocked → Walk (TStmt × State)
-body_row n u items c s =
-    (owning (count_items (function_names s) items) (items_row items) >>= λ r.
-    asked r (λ r. here (λ c s. give (t.Block r.0 r.1, s))))
-    (record c { own_from = 0; inner_from = n; may_break = false; may_continue = false; result = u }) s
+-- the block, and the parameters as objects, once all is known of them
+abbrev pub body_row : List Parameter → CType → Blocked → Walk (TStmt × List Object)
+body_row ps u items c s =
+    (owned_row items >>= λ r. asked r (λ r. here (λ c s. give (t.Block r.0 r.1, parameter_objects s 0 ps))))
+    (record c { own_from = 0; inner_from = length ps; may_break = false; may_continue = false; result = u }) s
 
-abbrev pub leaving : {A : Type 0} → State → Walk A → Walk A
-leaving old w c s =
-    let said = w c s in
-    record {
-      faults = said.faults;
-      given = said.given;
-      state = record (said.state) {
-        names = take (length old.names + 1) said.state.names;
-        tags = take (length old.tags) said.state.tags;
-        own = [];
-        addressed = [];
-        declared = 0;
-      };
-    }
+abbrev pub function_made : (tokens : ℕ) → CType → (TStmt × List Object) → TFunction
+function_made tokens u body = record { result = u; scalar = scalar_of u; parameters = body.1; body = body.0; tokens = tokens }
 
-abbrev pub defined_as : (tokens : ℕ) → Blocked → Identifier → State → (List Part × CType) → Walk TFunction
-defined_as tokens items id old h c s =
+-- the block in the scope that its parameters begin; the function's own name stands outside of it
+abbrev pub defined_as : (tokens : ℕ) → Blocked → Identifier → (List Part × CType) → Walk TFunction
+defined_as tokens items id h = here (λ c s.
     let ps = parameters_of h.0 in let u = result_of_shape (shape h.1) in
-    (beside (linked_faults c (closed old s) id true h.1)
-    (parameters_ready ps (change (λ s. entered (length ps) (named_outside (length old.names) id.text h.1 s))
-    (leaving old (in_function (length old.names + 1) (length old.tags) (body_row (length ps) u items)) >>= λ r.
-    asked r (λ r. give (function_made tokens u ps r)))))) c s
+    beside (linked_faults c s id true h.1)
+    (change (readied ps) (linked id.text true h.1 (change (begun (length ps))
+    (in_definition (body_row ps u items) >>= λ r. change ended (asked r (λ r. give (function_made tokens u r))))))))
 
 -- where the header has a fault the body is not asked: what stands in it stands behind that fault
 abbrev pub untyped_definition : {A : Type 0} → Identifier → Walk A
@@ -116,10 +94,10 @@ untyped_definition id = here (λ c s.
     || (is_defined (latest s.linked id.text) || is_library id.text)) kind.Redeclared id.place)
     (declaring id.text Unknown unasked))
 
-abbrev pub defined_if : (tokens : ℕ) → Blocked → Option Identifier → State → Option (List Part × CType) → Walk TFunction
-defined_if tokens items (Some id) old (Some h) = defined_as tokens items id old h
-defined_if tokens items (Some id) old None = change (closed old) (untyped_definition id)
-defined_if tokens items None old h = change (closed old) unasked
+abbrev pub defined_if : (tokens : ℕ) → Blocked → Option Identifier → Option (List Part × CType) → Walk TFunction
+defined_if tokens items (Some id) (Some h) = defined_as tokens items id h
+defined_if tokens items (Some id) None = untyped_definition id
+defined_if tokens items None h = unasked
 
 -- what the parts of a definition are: the statements of its body, and how many tokens it has
 pub record Defined : Type 0 where
@@ -140,11 +118,15 @@ defined_of d = record {
 abbrev pub defining_basis : Pos → Basis → Walk Basis
 defining_basis at b = unless (is_typedef b.storage) kind.BadSpecifier at (give b)
 
+-- no parameter list has been read yet
+abbrev pub unlisted : State → State
+unlisted s = record s { listed = no_scope }
+
 abbrev pub definition_row : Defined → Walk TFunction
 definition_row d =
-    specifiers_row false d.specifiers >>= λ b. asked b (defining_basis (first_token d.specifiers)) >>= λ b. here (λ c s.
-    in_function (length s.names) (length s.tags) (header (name_place d.declaring.name (first_token d.specifiers)) b d.declaring) >>=
-    defined_if d.tokens d.body d.declaring.name s)
+    specifiers_row false d.specifiers >>= λ b. asked b (defining_basis (first_token d.specifiers)) >>= λ b.
+    change unlisted (header (name_place d.declaring.name (first_token d.specifiers)) b d.declaring) >>=
+    defined_if d.tokens d.body d.declaring.name
 
 -- ---- units
 
@@ -192,11 +174,11 @@ file_objects names all (Defines d ∷ os) = file_objects names all os
 abbrev pub no_function : FunctionNames
 no_function name = false
 
--- what is fixed at file level
-abbrev pub around_unit : Source → Around
-around_unit u = record {
-  functions = defined_functions u.items;
-  objects = file_objects no_function [] u.items;
+-- what is fixed at file level, where no function has a value
+abbrev pub around_file : (functions objects : List Name) → (result : CType) → Around
+around_file functions objects result = record {
+  functions = functions;
+  objects = objects;
   at_file_level = true;
   names_from = 0;
   tags_from = 0;
@@ -205,14 +187,19 @@ around_unit u = record {
   numbers_from = 0;
   may_break = false;
   may_continue = false;
-  result = void;
+  result = result;
 }
+
+abbrev pub around_unit : Source → Around
+around_unit u = around_file (defined_functions u.items) (file_objects no_function [] u.items) void
 
 -- nothing is declared yet
 abbrev pub nothing_found : State
 nothing_found = record {
   names = [];
   tags = [];
+  outer = no_scope;
+  listed = no_scope;
   structs = [];
   fixed = [];
   enums = 0;

@@ -1,3 +1,6 @@
+//! What a declarator declares (C11 6.7.6): its name, its type and its parameters.
+//! Values that typing gives on its way; no walk stands here.
+
 use c_tree::typed::CType;
 use c_tree::{Identifier, Pos, Storage};
 use word_ops::Items;

@@ -1,3 +1,6 @@
+//! A fault of typing: which constraint of C11 is broken, and at which token.
+//! The kinds are those of c_tree.
+
 use c_tree::{FaultKind, Pos};
 
 /// A fault of a source.

@@ -1,3 +1,6 @@
+//! The parts of an initialiser (C11 6.7.9p17): which part of an object each expression or string fills.
+//! Values that typing gives on its way; no walk stands here.
+
 use crate::operand::Operand;
 use c_tree::Pos;
 use c_tree::typed::CType;

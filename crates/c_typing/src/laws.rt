@@ -1,6 +1,6 @@
 //! Laws of the definitions that contracts cite. The functions do nothing: each is here for what its contract says.
 
-ghost use Rattle.c_typing.specs.Laws.{FirstIsTold, NoneIsTold};
+ghost use Rattle.c_typing.specs.Laws.{FirstIsTold, NoneIsTold, CompositeFits};
 ghost use Rattle.c_typing.specs.Examples.Expressions.{ExpressionsTyped};
 ghost use Rattle.c_typing.specs.Examples.Operators.{OperatorsTyped};
 ghost use Rattle.c_typing.specs.Examples.Declarators.{DeclaratorsTyped};
@@ -22,4 +22,9 @@ pub fn examples()
 pub fn first_is_told()
     ensures first { FirstIsTold }
     ensures none { NoneIsTold }
+{}
+
+/// The composite type of two compatible types is compatible with both (C11 6.2.7p3).
+pub fn composite_fits()
+    ensures { CompositeFits }
 {}

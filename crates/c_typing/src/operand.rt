@@ -1,3 +1,6 @@
+//! Operands (C11 6.3.2.1): an expression with its type, and whether it is a value, an object or a function.
+//! Values that typing gives on its way; no walk stands here.
+
 use c_tree::typed::{CType, Step, TExpr};
 use word_ops::Items;
 

@@ -1,3 +1,6 @@
+//! A row of the table of operators (C11 6.5): to which types operands are converted, what is done, and the type of the
+//! result. Values that typing gives on its way; no walk stands here.
+
 use c_tree::FaultKind;
 use c_tree::typed::{Arithmetic, CType};
 

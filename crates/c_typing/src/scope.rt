@@ -1,3 +1,6 @@
+//! What names stand for (C11 6.2.1, 6.2.3), and all that typing knows at a place of a source.
+//! Values that typing gives on its way; no walk stands here.
+
 use crate::fault::Fault;
 use c_layout::Tags;
 use c_tree::typed::{CType, StaticObject, StaticPart};
@@ -58,13 +61,26 @@ pub struct Linkage {
     pub defined: bool,
 }
 
+/// What a scope and those in it have declared, where it is set aside (C11 6.2.1).
+#[derive(Drop)]
+pub struct Scope {
+    /// the ordinary identifiers, the oldest first
+    pub names: ScopeMap<Text, Meaning>,
+    /// the tags, the oldest first
+    pub tags: ScopeMap<Text, Tag>,
+}
+
 /// What a walk over a unit has found so far.
 #[derive(Drop)]
 pub struct State {
-    /// the ordinary identifiers that are visible, the oldest first
+    /// the ordinary identifiers that are visible, the oldest first: in a function definition those of its own scope
     pub names: ScopeMap<Text, Meaning>,
-    /// the tags that are visible, the oldest first
+    /// the tags that are visible, the oldest first, of the same scope
     pub tags: ScopeMap<Text, Tag>,
+    /// file scope, as long as the scope of a function definition stands in it (C11 6.2.1p4)
+    pub outer: Scope,
+    /// the scope of a function definition from the end of its parameter list to its block
+    pub listed: Scope,
     /// the structure types
     pub structs: Tags,
     /// of each structure type whether a member of it is `const`, or has a member or an element that is (C11 6.3.2.1p1)

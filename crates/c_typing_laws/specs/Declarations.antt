@@ -14,7 +14,7 @@ use Rattle.c_typing.specs.declared.initialiser.Filled.{Filled}
 use Rattle.c_typing.specs.declared.scope.Meaning.TheVariants.{Automatic, Static, Linked}
 use Rattle.c_typing.specs.Types.{shape, is_function, is_void}
 use Rattle.c_typing.specs.Scopes.{Name, Walk, give, asked, both_asked, beside, fault_if, change, declaring, latest, own_meaning, ◌>>=◌}
-use Rattle.c_typing.specs.Declarators.{first_token}
+use Rattle.c_typing.specs.Declarators.{basis_type, is_register, first_token}
 use Rattle.c_typing.specs.OfInitialisers.{Initialising}
 use Rattle.c_typing.specs.Declarations as typing
 use Rattle.c_typing.specs.Declarations.{Made, Beginning, Declared, counted, linked_faults, composed, is_defined}
@@ -55,7 +55,7 @@ without_start (Some s) = search walks
 typedef_row : (id : Identifier) (u : CType) (start : Option Initialising) → Answers Any (typing.typedef_row id u start)
 typedef_row id u start = search (walks, besides, without_start)
 
-linked : {A : Type 0} {P : A → Type 0} {w : Walk A} (name : Name) (defines : Bool) (u : CType) → Answers P w → Answers P (typing.linked name defines u w)
+pub linked : {A : Type 0} {P : A → Type 0} {w : Walk A} (name : Name) (defines : Bool) (u : CType) → Answers P w → Answers P (typing.linked name defines u w)
 linked {A} {P} {w} name defines u p =
     sees (λ c s. let v = composed u (latest s.linked name) in
     change (λ s. record s { linked = s.linked ++ (name, record { ctype = v; defined = defines || is_defined (latest s.linked name) }) ∷ [] }) (declaring name (Linked v) w))
@@ -155,9 +155,9 @@ declared_row k id start u h =
     either (typing.is_typedef k) (λ a. typedef_row id u start) (λ a.
     either (is_function u) (λ b. function_row id u start) (λ b.
     sees (λ c s. if c.at_file_level || typing.is_extern k then typing.linked_row id (typing.is_extern k) u start
-    else (if typing.is_static k then typing.static_row id u start else typing.automatic_row id (typing.is_register k) u start))
+    else (if typing.is_static k then typing.static_row id u start else typing.automatic_row id (is_register k) u start))
     (λ c s l. either (c.at_file_level || typing.is_extern k) (λ d. linked_row id (typing.is_extern k) u start h)
-    (λ d. either (typing.is_static k) (λ e. static_row id u start h) (λ e. automatic_row id (typing.is_register k) u start h)))))
+    (λ d. either (typing.is_static k) (λ e. static_row id u start h) (λ e. automatic_row id (is_register k) u start h)))))
 
 declared_if : (b : Option Basis) (makes : Bool) (name : Option Identifier) (start : Option Initialising) (u : Option CType)
     → IfGiven Any b → IfGiven Any name → IfInitialises start → IfGiven Any u → Answers Any (typing.declared_if b makes name start u)
@@ -169,7 +169,7 @@ declared_if None makes name start u g n h k = absurd g
 init_declarator_row : (first : Pos) (b : Option Basis) (d : Beginning) → IfGiven Any b → Begins d → Answers Any (typing.init_declarator_row first b d)
 init_declarator_row first b d g p =
     follows (typing.declared_if b (unwrap_or d.declaring.makes false) d.declaring.name d.start)
-    (declared_type d.declaring false first (option_map typing.basis_type b) p.derives (mapped typing.basis_type b g))
+    (declared_type d.declaring false first (option_map basis_type b) p.derives (mapped basis_type b g))
     (λ u k. declared_if b (unwrap_or d.declaring.makes false) d.declaring.name d.start u g p.named p.start k)
 
 init_declarators_row : (first : Pos) (b : Option Basis) (ds : List Beginning) → IfGiven Any b → AllByRecursion Begins ds → Answers Any (typing.init_declarators_row first b ds)

@@ -6,7 +6,6 @@ use Rattle.c_tree.specs.declared.token.Pos.{Pos}
 use Rattle.c_tree.specs.declared.expression.Identifier.{Identifier}
 use Rattle.c_tree.specs.declared.refusal.FaultKind.TheVariants as kind
 use Rattle.c_tree.specs.declared.typed.types.Base.{Base}
-use Rattle.c_tree.specs.declared.typed.types.Base.TheVariants as base
 use Rattle.c_tree.specs.declared.typed.types.CType.{CType}
 use Rattle.c_layout.specs.declared.tags.StructLayout.{StructLayout}
 use Rattle.c_layout.specs.Structures.{Declared, layout}
@@ -19,11 +18,10 @@ use Rattle.c_typing.specs.declared.operand.Operand.{Operand}
 use Rattle.c_typing.specs.declared.declarator.Part.{Part}
 use Rattle.c_typing.specs.declared.declarator.Part.TheVariants.{Pointing, Arraying, SomeArray, Listing, SomeFunction}
 use Rattle.c_typing.specs.declared.declarator.Basis.{Basis}
-use Rattle.c_typing.specs.Types.{plain}
-use Rattle.c_typing.specs.Scopes.{Walk, give, offer, unasked, change, beside, asked, both_asked, ◌>>=◌, joined, latest}
+use Rattle.c_typing.specs.Scopes.{Walk, give, offer, unasked, change, beside, asked, both_asked, ◌>>=◌, joined, meaning_of}
 use Rattle.c_typing.specs.Declarators as typing
 use Rattle.c_typing.specs.Declarators.{Expressed, Declaring, Specifying, Storing, Qualifying, Wording, Naming, Using, Specified, Enumerated, Members, Parts}
-use Rattle.c_typing_laws.specs.Scopes.{IfGiven, Answers, Any, gives, tells, offers, follows, asks, both, chain, pair, besides, passes, either, sees, changes, in_order, all_append, walks, IfMeant, latest_known}
+use Rattle.c_typing_laws.specs.Scopes.{IfGiven, Answers, Any, gives, tells, offers, follows, asks, both, chain, pair, besides, passes, either, sees, changes, in_order, all_append, walks, IfMeant, meaning_known}
 
 pub mapped : {A B : Type 0} (f : A → B) (o : Option A) → IfGiven Any o → IfGiven Any (option_map f o)
 mapped f (Some a) h = tt
@@ -148,7 +146,7 @@ typedef_meant id (Some Unknown) h = absurd h
 
 typedef_name_row : (id : Identifier) → Answers Any (typing.typedef_name_row id)
 typedef_name_row id =
-    sees (λ c s. typing.typedef_meant id (latest s.names id.text)) (λ c s k. typedef_meant id (latest s.names id.text) (latest_known s.names id.text k))
+    sees (λ c s. typing.typedef_meant id (meaning_of s id.text)) (λ c s k. typedef_meant id (meaning_of s id.text) (meaning_known s id.text k))
 
 pub using : (id : Identifier) → Specifies (Using id)
 using id alone r h = follows (λ t. give (typing.with_type r t)) (typedef_name_row id) (λ t g. gives _ (one_more r t h g))

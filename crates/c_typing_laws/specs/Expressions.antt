@@ -27,10 +27,10 @@ use Rattle.c_typing.specs.Types.{int, Shape, Basic, PointerTo, ArrayOf, Function
 use Rattle.c_typing.specs.Conversions.{scalar_of}
 use Rattle.c_typing.specs.Operands.{number, valued, target_of}
 use Rattle.c_typing.specs.Operators.{binary, contained, chosen}
-use Rattle.c_typing.specs.Scopes.{Name, Walk, unasked, here, beside, fault_if, asked, both_asked, latest, number_in}
+use Rattle.c_typing.specs.Scopes.{Name, Walk, unasked, here, beside, fault_if, asked, both_asked, meaning_of, number_in}
 use Rattle.c_typing.specs.Expressions as typing
 use Rattle.c_typing.specs.Expressions.{Argument, Chain, Assigned}
-use Rattle.c_typing_laws.specs.Scopes.{IsKnown, IfGiven, IfMeant, Answers, Any, gives, tells, offers, follows, asks, both, chain, besides, passes, either, sees, unready, latest_known, not_told, pair, walks}
+use Rattle.c_typing_laws.specs.Scopes.{AreKnown, IfGiven, IfMeant, Answers, Any, gives, tells, offers, follows, asks, both, chain, besides, passes, either, sees, unready, meaning_known, not_told, pair, walks}
 
 -- ---- names, constants and sizes
 
@@ -48,7 +48,7 @@ meant id (Some (TypedefOf t)) h = search walks
 meant id (Some Unknown) h = absurd h
 
 pub name_row : (id : Identifier) → Answers Any (typing.name_row id)
-name_row id = sees (λ c s. typing.meant id (latest s.names id.text)) (λ c s k. meant id (latest s.names id.text) (latest_known s.names id.text k))
+name_row id = sees (λ c s. typing.meant id (meaning_of s id.text)) (λ c s k. meant id (meaning_of s id.text) (meaning_known s id.text k))
 
 pub string_row : (at : Pos) (bytes : List ℕ) → Answers Any (typing.string_row at bytes)
 string_row at bytes = search walks
@@ -73,7 +73,7 @@ reached at o (Some t) = sees (λ c s. typing.place_if at t o (size_of s.structs 
 pub indirection_row : (at : Pos) (o : Operand) → Answers Any (typing.indirection_row at o)
 indirection_row at o = reached at (valued o) (target_of (valued o).ctype)
 
-address_taken : (o : Option ℕ) (s : State) → IsKnown s.names → IsKnown (typing.address_taken o s).names
+address_taken : (o : Option ℕ) (s : State) → AreKnown s → AreKnown (typing.address_taken o s)
 address_taken None s k = k
 address_taken (Some n) s k = k
 
@@ -213,8 +213,8 @@ called id at args (Some (Static t n)) m h = search walks
 
 pub call_row : (id : Identifier) (at : Pos) (args : List Argument) → AllByRecursion IsGivenArgument args → Answers Any (typing.call_row id at args)
 call_row id at args h =
-    sees (λ c s. typing.called id at args (latest s.names id.text))
-    (λ c s k. called id at args (latest s.names id.text) (latest_known s.names id.text k) h)
+    sees (λ c s. typing.called id at args (meaning_of s id.text))
+    (λ c s k. called id at args (meaning_of s id.text) (meaning_known s id.text k) h)
 
 -- ---- `? :`
 

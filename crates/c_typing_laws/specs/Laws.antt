@@ -64,7 +64,7 @@ pub clean_units_are_typed : CleanUnitsAreTyped
 clean_units_are_typed u good clean =
     let all = (in_row (map external_level u.items) []).0 in
     some_given (unit_said (source_of u)).given
-    ((outers_row (map outer_of u.items) (outers u.items [] (right (filled all) _ good))).run (around_unit (source_of u)) nothing_found tt
+    ((outers_row (map outer_of u.items) (outers u.items [] (right (filled all) _ good))).run (around_unit (source_of u)) nothing_found (tt, (tt, tt))
     (none_first (unit_said (source_of u)).faults _ clean)).gives
 
 -- ---- the first fault

@@ -1,3 +1,5 @@
+-- Proofs on the definition of typing, each file behind those that it cites; `Laws` states what the calls of this crate
+-- promise.
 pub mod Scopes
 pub mod Expressions
 pub mod Declarators

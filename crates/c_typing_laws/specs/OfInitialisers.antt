@@ -15,11 +15,11 @@ use Rattle.c_typing.specs.declared.initialiser.Piece.{Piece}
 use Rattle.c_typing.specs.declared.scope.State.{State}
 use Rattle.c_typing.specs.Faults.{fault}
 use Rattle.c_typing.specs.Types.{Shape, Basic, PointerTo, ArrayOf, FunctionOf, shape, basic, is_integer_base, is_pointer_shape, is_scalar, is_character}
-use Rattle.c_typing.specs.Scopes.{beside, Around, Walk, ◌>>=◌}
+use Rattle.c_typing.specs.Scopes.{Around, Walk, ◌>>=◌}
 use Rattle.c_typing.specs.Declarators.{Expressed}
 use Rattle.c_typing.specs.OfInitialisers as typing
 use Rattle.c_typing.specs.OfInitialisers.{Initialising, Placed, descend, greatest_depth}
-use Rattle.c_typing_laws.specs.Scopes.{IsKnown, IfGiven, Answered, Answers, Any, gives, follows, chain, faulty, either, sees, weaker, all_append}
+use Rattle.c_typing_laws.specs.Scopes.{AreKnown, IfGiven, Answered, Answers, Any, gives, follows, chain, faulty, either, sees, weaker, all_append}
 use Rattle.c_typing_laws.specs.Declarators.{Says}
 
 -- ---- parts of an object
@@ -149,7 +149,7 @@ item_by e fs q b = if b then typing.expression_placed e.first e.literal fs q Non
 
 -- what the string is for is asked in the state in which it is placed
 by_string : (e : Expressed) (fs : List Frame) (q : Piece) → Says e → (c : Around) (s : State) (b : Bool) → typing.is_string_for s.structs e.literal q ≡ b
-    → IsKnown s.names → (item_by e fs q b c s).faults ≡ [] → Answered PlacesRight (item_by e fs q b c s).given (item_by e fs q b c s).state
+    → AreKnown s → (item_by e fs q b c s).faults ≡ [] → Answered PlacesRight (item_by e fs q b c s).given (item_by e fs q b c s).state
 by_string e fs q p c s true is k h = (text_placed e fs q s is).run c s k h
 by_string e fs q p c s false is k h =
     (follows (typing.expression_placed e.first e.literal fs q) p (expression_placed e.first e.literal fs q)).run c s k h

@@ -18,14 +18,14 @@ use Rattle.c_typing.specs.Faults.{fault}
 use Rattle.c_typing.specs.Types.{is_void}
 use Rattle.c_typing.specs.Operands.{tree_of}
 use Rattle.c_typing.specs.Expressions as rows
-use Rattle.c_typing.specs.Scopes.{unasked, beside, fault_if, Walk, give, tell, asked, both_asked, here, unless, scoped, ◌>>=◌}
+use Rattle.c_typing.specs.Scopes.{unasked, beside, fault_if, Walk, give, tell, asked, both_asked, here, scoped, ◌>>=◌}
 use Rattle.c_typing.specs.Declarators.{Expressed}
 use Rattle.c_typing.specs.Declarators as parts
 use Rattle.c_typing.specs.Declarations.{Made, FunctionNames, Declared, automatic_count}
 use Rattle.c_typing.specs.Declarations as declaring
 use Rattle.c_typing.specs.OfStatements as typing
 use Rattle.c_typing.specs.OfStatements.{Stated, Itemised, Counted, States, Cases, Defaults, Blocked, Elsed, Heading, First, Controlling, Parting, function_names, count_items}
-use Rattle.c_typing_laws.specs.Scopes.{besides, not_told, IfGiven, Answers, Any, gives, follows, asks, both, chain, pair, passes, sees, turns, scopes, walks}
+use Rattle.c_typing_laws.specs.Scopes.{besides, not_told, IfGiven, Answers, Any, gives, follows, asks, both, chain, pair, sees, turns, scopes, walks}
 use Rattle.c_typing_laws.specs.Expressions.{truth_row, given_row}
 use Rattle.c_typing_laws.specs.Declarators.{Says, constant_row}
 use Rattle.c_typing_laws.specs.Declarations.{Declares, declaration_row}

@@ -17,20 +17,19 @@ use Rattle.c_tree.specs.declared.typed.expression.TExpr.{TExpr}
 use Rattle.c_tree.specs.declared.typed.expression.TExpr.TheVariants as x
 use Rattle.c_typing.specs.declared.operand.Operand.{Operand}
 use Rattle.c_typing.specs.declared.declarator.Part.{Part}
-use Rattle.c_typing.specs.declared.declarator.Part.TheVariants.{Arraying, Listing}
 use Rattle.c_typing.specs.declared.declarator.Parameter.{Parameter}
 use Rattle.c_typing.specs.declared.declarator.Basis.{Basis}
 use Rattle.c_typing.specs.Types.{int, shape}
 use Rattle.c_typing.specs.Operands.{tree_of, value, valued, dropping}
 use Rattle.c_typing.specs.Scopes.{Walk, give, tell, offer, asked, both_asked, ◌>>=◌, joined, in_row}
-use Rattle.c_typing.specs.Declarators.{Expressed, Declaring, Suffixed, Specified, TypeNamed, Members, declared_type, name_place, adjusted, first_token}
+use Rattle.c_typing.specs.Declarators.{Expressed, Declaring, Suffixed, Specified, TypeNamed, Members, basis_type, is_register, declared_type, name_place, adjusted, first_token}
 use Rattle.c_typing.specs.Declarators.{array_part as array_part_of, function_part as function_part_of}
 use Rattle.c_typing.specs.Parts.{Prefixing, Marking, Sizing, Casting, Prefixed, Suffixing, Indexing, Calling, Membering, Arrowing, Changing, Operating, Branching}
 use Rattle.c_typing.specs.Parts as parts
 use Rattle.c_typing.specs.Expressions as rows
 use Rattle.c_typing.specs.Expressions.{Argument, Chain, Assigned}
 use Rattle.c_typing.specs.OfTrees as typing
-use Rattle.c_typing_laws.specs.Scopes.{IfGiven, Answers, Any, gives, tells, offers, follows, asks, both, chain, pair, besides, either, joins, in_order, scopes, all_append, all_reversed, walks}
+use Rattle.c_typing_laws.specs.Scopes.{IfGiven, Answers, Any, gives, tells, offers, follows, asks, both, chain, pair, besides, either, joins, in_order, scopes, defines, all_append, all_reversed, walks}
 use Rattle.c_typing_laws.specs.Expressions.{IsGivenArgument, size_row, indirection_row, address_row, promoted_row, not_row, increment_row, cast_row, binary_row, truth_row, index_row, member_row, arrow_row, call_row, conditional_row, assign_row}
 use Rattle.c_typing_laws.specs.Declarators.{Says, IsSettled, AreSettled, Derives, IsSpecific, AreMembers, mapped, count_row, complete_parameter, specifiers_row, one_member}
 use Rattle.c_typing_laws.specs.Declarators as declarators
@@ -192,10 +191,10 @@ operands [] h = tt
 operands (n ∷ ns) h = (h.0, operands ns h.1)
 
 pub named_type : (ss : List Specified) (d : Declaring) (at : Pos) → AllByRecursion IsSpecific ss → Derives d
-    → Answers Any (Rattle.c_typing.specs.Declarators.specifiers_row false ss >>= λ b. declared_type d false at (option_map typing.basis_type b))
+    → Answers Any (Rattle.c_typing.specs.Declarators.specifiers_row false ss >>= λ b. declared_type d false at (option_map basis_type b))
 named_type ss d at p q =
-    follows (λ b. declared_type d false at (option_map typing.basis_type b)) (specifiers_row false ss p)
-    (λ b g. declarators.declared_type d false at (option_map typing.basis_type b) q (mapped typing.basis_type b g))
+    follows (λ b. declared_type d false at (option_map basis_type b)) (specifiers_row false ss p)
+    (λ b g. declarators.declared_type d false at (option_map basis_type b) q (mapped basis_type b g))
 
 -- ---- members
 
@@ -247,7 +246,7 @@ function_part None h = absurd h
 
 pub listing : (defining : Bool) (qs : List parts.Listed) → AllByRecursion Listed qs → Answers IsSettled (typing.listing defining (typing.parameters_row 0 qs))
 listing defining qs h =
-    follows (λ ps. give (function_part_of ps)) (either defining (λ e. parameters_row 0 qs h) (λ e. in_prototype (typing.parameters_row 0 qs) (parameters_row 0 qs h)))
+    follows (λ ps. give (function_part_of ps)) (either defining (λ e. defines (parameters_row 0 qs h)) (λ e. in_prototype (typing.parameters_row 0 qs) (parameters_row 0 qs h)))
     (λ ps a. gives (function_part_of ps) (function_part ps a))
 
 array_part : (n : Option ℕ) → IfGiven Any n → IsSettled (array_part_of n)
@@ -273,17 +272,17 @@ parameter_named None n r t = search walks
 
 parameter_type : (d : Declaring) (at : Pos) (b : Option Basis) → Derives d → IfGiven Any b → Answers Any (typing.parameter_type d at b)
 parameter_type d at b p h =
-    chain (declarators.declared_type d false at (option_map typing.basis_type b) p (mapped typing.basis_type b h))
+    chain (declarators.declared_type d false at (option_map basis_type b) p (mapped basis_type b h))
     (λ t a. complete_parameter (name_place d.name at) (adjusted (shape t) t))
 
 -- the parameter itself, behind its type
 abbrev pub last_of : Declaring → Pos → ℕ → Basis → CType → Walk Parameter
 last_of d at n b t =
-    typing.parameter_named d.name n (typing.is_register b.storage) t >>= λ t. asked t (λ t.
-    give (record { name = d.name; first = at; ctype = t; in_register = typing.is_register b.storage }))
+    typing.parameter_named d.name n (is_register b.storage) t >>= λ t. asked t (λ t.
+    give (record { name = d.name; first = at; ctype = t; in_register = is_register b.storage }))
 
 last_row : (d : Declaring) (at : Pos) (n : ℕ) (b : Basis) (t : CType) → Answers Any (last_of d at n b t)
-last_row d at n b t = chain (parameter_named d.name n (typing.is_register b.storage) t) (λ t a. gives _ tt)
+last_row d at n b t = chain (parameter_named d.name n (is_register b.storage) t) (λ t a. gives _ tt)
 
 pub parameter : (ss : List Specified) (d : Declaring) (at : Pos) (n : ℕ) → AllByRecursion IsSpecific ss → Derives d
     → Answers Any (Rattle.c_typing.specs.Declarators.specifiers_row false ss >>= λ b. asked b (typing.parameter_basis at) >>= λ b. typing.parameter_type d at b >>= λ t.

@@ -12,7 +12,7 @@ use Rattle.c_typing.specs.declared.scope.Meaning.{Meaning}
 use Rattle.c_typing.specs.declared.scope.Meaning.TheVariants.{Unknown}
 use Rattle.c_typing.specs.declared.scope.Tag.{Tag}
 use Rattle.c_typing.specs.declared.scope.State.{State}
-use Rattle.c_typing.specs.Scopes.{Name, Around, Walk, give, tell, offer, ◌>>=◌, asked, both_asked, beside, fault_if, unless, here, unready_if, change, joined, in_row, scoped, latest, declaring, tagging}
+use Rattle.c_typing.specs.Scopes.{Name, Around, Walk, give, tell, offer, ◌>>=◌, asked, both_asked, beside, fault_if, unless, here, unready_if, change, joined, in_row, scoped, entered, in_definition, visible_names, meaning_of, declaring, tagging}
 
 -- ---- names
 
@@ -28,6 +28,10 @@ IsMeantPair pair = IsMeant pair.1
 abbrev pub IsKnown : List (Name × Meaning) → Type 0
 IsKnown names = AllByRecursion IsMeantPair names
 
+-- each name that is visible, or was declared by the parameter list of the definition at hand, is one of these
+abbrev pub AreKnown : State → Type 0
+AreKnown s = IsKnown s.names × (IsKnown s.outer.names × IsKnown s.listed.names)
+
 -- ---- answers
 
 -- something is given, and this holds of it
@@ -38,11 +42,11 @@ IfGiven P None = ⊥
 -- what is given, and the names behind it
 pub record Answered {A : Type 0} (P : A → Type 0) (given : Option A) (s : State) : Type 0 where
   pub gives : IfGiven P given
-  pub known : IsKnown s.names
+  pub known : AreKnown s
 
 -- where no fault is told, something is given of which this holds, and no name is unknown behind it
 pub record Answers {A : Type 0} (P : A → Type 0) (w : Walk A) : Type 0 where
-  pub run : (c : Around) (s : State) → IsKnown s.names → (w c s).faults ≡ [] → Answered P (w c s).given (w c s).state
+  pub run : (c : Around) (s : State) → AreKnown s → (w c s).faults ≡ [] → Answered P (w c s).given (w c s).state
 
 -- anything
 abbrev pub Any : {A : Type 0} → A → Type 0
@@ -111,13 +115,13 @@ pub either : {A : Type 0} {P : A → Type 0} {v w : Walk A} (b : Bool) → (b �
 either true q r = q refl
 either false q r = r refl
 
-pub sees : {A : Type 0} {P : A → Type 0} (f : Around → State → Walk A) → ((c : Around) (s : State) → IsKnown s.names → Answers P (f c s)) → Answers P (here f)
+pub sees : {A : Type 0} {P : A → Type 0} (f : Around → State → Walk A) → ((c : Around) (s : State) → AreKnown s → Answers P (f c s)) → Answers P (here f)
 sees f q = record { run = λ c s k h. (q c s k).run c s k h }
 
 pub turns : {A : Type 0} {P : A → Type 0} {w : Walk A} (g : Around → Around) → Answers P w → Answers P (λ c s. w (g c) s)
 turns g q = record { run = λ c s k h. q.run (g c) s k h }
 
-pub changes : {A : Type 0} {P : A → Type 0} {w : Walk A} (g : State → State) → ((s : State) → IsKnown s.names → IsKnown (g s).names) → Answers P w → Answers P (change g w)
+pub changes : {A : Type 0} {P : A → Type 0} {w : Walk A} (g : State → State) → ((s : State) → AreKnown s → AreKnown (g s)) → Answers P w → Answers P (change g w)
 changes g t q = record { run = λ c s k h. q.run c (g s) (t s k) h }
 
 pub unready : {A : Type 0} {P : A → Type 0} {w : Walk A} (b : Bool) (k : FaultKind) (p : Pos) → Answers P w → Answers P (unready_if b k p w)
@@ -186,11 +190,13 @@ found test (x ∷ xs) h = by_test (test x) (found test xs h.1)
     by_test true rest = h.0
     by_test false rest = rest
 
-pub latest_known : (names : List (Name × Meaning)) (name : Name) → IsKnown names → IfMeant (latest names name)
-latest_known names name h = found (λ pair. bytes_eq pair.0 name) (reverse names) (all_reversed IsMeantPair names h)
+pub meaning_known : (s : State) (name : Name) → AreKnown s → IfMeant (meaning_of s name)
+meaning_known s name k =
+    let names = visible_names s in
+    found (λ pair. bytes_eq pair.0 name) (reverse names) (all_reversed IsMeantPair names (all_append IsMeantPair s.outer.names s.names k.1.0 k.0))
 
 pub declares : {A : Type 0} {P : A → Type 0} {w : Walk A} (name : Name) (m : Meaning) → IsMeant m → Answers P w → Answers P (declaring name m w)
-declares name m g q = changes (λ s. record s { names = s.names ++ (name, m) ∷ [] }) (λ s k. all_append IsMeantPair s.names ((name, m) ∷ []) k (g, tt)) q
+declares name m g q = changes (λ s. record s { names = s.names ++ (name, m) ∷ [] }) (λ s k. (all_append IsMeantPair s.names ((name, m) ∷ []) k.0 (g, tt), k.1)) q
 
 pub tags_it : {A : Type 0} {P : A → Type 0} {w : Walk A} (name : Name) (tag : Tag) → Answers P w → Answers P (tagging name tag w)
 tags_it name tag q = changes (λ s. record s { tags = s.tags ++ (name, tag) ∷ [] }) (λ s k. k) q
@@ -201,7 +207,14 @@ pub scopes : {A : Type 0} {P : A → Type 0} {w : Walk A} → Answers P w → An
 scopes {A} {P} {w} q = record {
   run = λ c s k h.
       let r = q.run (record c { names_from = length s.names; tags_from = length s.tags }) s k h in
-      record { gives = r.gives; known = all_take IsMeantPair (length s.names) _ r.known };
+      record { gives = r.gives; known = (all_take IsMeantPair (length s.names) _ r.known.0, r.known.1) };
 }
 
-pub ruleset walks = (gives, tells, passes, either, asks, both, chain, pair, faulty, sees, changes, scopes, declares, tags_it)
+pub defines : {A : Type 0} {P : A → Type 0} {w : Walk A} → Answers P w → Answers P (in_definition w)
+defines {A} {P} {w} q = record {
+  run = λ c s k h.
+      let r = q.run (record c { at_file_level = false; names_from = 0; tags_from = 0 }) (entered s) (k.1.1, (k.0, tt)) h in
+      record { gives = r.gives; known = (r.known.1.0, (tt, r.known.0)) };
+}
+
+pub ruleset walks = (gives, tells, passes, either, asks, both, chain, pair, faulty, sees, changes, scopes, defines, declares, tags_it)

@@ -29,7 +29,7 @@ use Rattle.c_typing.specs.Expressions as rows
 use Rattle.c_typing.specs.Scopes.{Walk, give, offer, asked, ◌>>=◌, joined}
 use Rattle.c_typing.specs.Starts as typing
 use Rattle.c_typing.specs.Declarations.{counted, counted_shape}
-use Rattle.c_typing_laws.specs.Scopes.{faulty, IsKnown, IfGiven, Answers, Any, gives, tells, offers, follows, asks, both, chain, pair, passes, either, sees, joins, walks}
+use Rattle.c_typing_laws.specs.Scopes.{faulty, AreKnown, IfGiven, Answers, Any, gives, tells, offers, follows, asks, both, chain, pair, passes, either, sees, joins, walks}
 use Rattle.c_typing_laws.specs.OfInitialisers.{IsRight, BeginsGiven, Fills}
 
 -- ---- scalar types

@@ -41,7 +41,7 @@ impl<F: Fn(Global, &mut Cursor<'_>, u32, Wanted) -> Result<Found, ParseFault>> G
                 return Ok(found);
             }
             let next = or_drop!(self.nested_item(input, labels), found);
-            found = pushed(found, next)?;
+            found = pushed(self.alloc, found, next)?;
         }
         Ok(found)
     }

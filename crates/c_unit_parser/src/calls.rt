@@ -3,10 +3,10 @@
 
 ghost use Rattle.c_unit_parser.specs.Units as call;
 
-use crate::cursor::{Cursor, DEEPEST};
+use crate::cursor::Cursor;
 use crate::grammar::Grammar;
 use crate::inside::inside;
-use c_expr_parser::ParseFault;
+use c_expr_parser::{DEEPEST, ParseFault};
 use c_tree::{Tokens, Unit};
 use std::alloc::Global;
 

@@ -4,6 +4,7 @@
 ghost use Rattle.std.specs.Prelude.{◌≡◌, ℕ, ◌≤◌, true, false, length, MatchResult, OnOk, [], ◌∷◌};
 ghost use Rattle.std.specs.Option.{option_copied};
 ghost use Rattle.scope_map.specs.Scopes.{Marked};
+ghost use Rattle.c_tree.specs.Levelled.{nesting_limit};
 ghost use Rattle.c_tree.specs.Levels.Names.{Names, is_typedef_name};
 ghost use Rattle.c_tree.specs.Levels.Productions as production;
 ghost use Rattle.c_tree.specs.Levels.Facts as facts;
@@ -20,7 +21,7 @@ ghost use Rattle.c_unit_parser.specs.Reads.{Reads, placed};
 
 use crate::declares::{declare, parameters};
 use crate::words::{ItemKind, is_word, label_kind, mark_begins_statement, word_begins_statement};
-use c_expr_parser::{Names, ParseFault, Use, is_mark, word_begins};
+use c_expr_parser::{DEEPEST, Names, ParseFault, Use, is_mark, word_begins};
 use c_tree::{
     Declarator, Expr, Keyword, Parameter, Pos, Punct, Specifiers, Token, TokenKind, Tokens,
 };
@@ -28,9 +29,6 @@ use scope_map::ScopeMap;
 use std::alloc::Global;
 use std::marker::Model;
 use word_ops::Text;
-
-/// How deep tokens may nest.
-pub const DEEPEST: u32 = 256;
 
 /// The tokens that are left, and the names that are visible, each with whether it is a typedef name.
 #[derive(Drop)]
@@ -251,7 +249,7 @@ impl<'a> Cursor<'a> {
 
     /// An expression (C11 6.5.17), where so many brackets may be opened.
     pub fn expression(&mut self, alloc: Global, more: u32) -> Result<Expr, ParseFault>
-        requires { more ≤ 256 }
+        requires { more ≤ nesting_limit }
         ensures reads { Reads (grammar.expression more production.comma self.old.state) self.old.end result self.new }
         ensures keeps { OnOk result (Keeps self.old.state self.new.state) }
         ensures ends { self.new.end ≡ self.old.end }
@@ -283,7 +281,7 @@ impl<'a> Cursor<'a> {
 
     /// An assignment expression (C11 6.5.16), where so many brackets may be opened.
     pub fn assignment(&mut self, alloc: Global, more: u32) -> Result<Expr, ParseFault>
-        requires { more ≤ 256 }
+        requires { more ≤ nesting_limit }
         ensures reads { Reads (grammar.expression more production.assignment self.old.state) self.old.end result self.new }
         ensures keeps { OnOk result (Keeps self.old.state self.new.state) }
         ensures ends { self.new.end ≡ self.old.end }
@@ -302,7 +300,7 @@ impl<'a> Cursor<'a> {
 
     /// A conditional expression (C11 6.5.15), where so many brackets may be opened.
     pub fn conditional(&mut self, alloc: Global, more: u32) -> Result<Expr, ParseFault>
-        requires { more ≤ 256 }
+        requires { more ≤ nesting_limit }
         ensures reads { Reads (grammar.expression more production.conditional self.old.state) self.old.end result self.new }
         ensures keeps { OnOk result (Keeps self.old.state self.new.state) }
         ensures ends { self.new.end ≡ self.old.end }
@@ -321,7 +319,7 @@ impl<'a> Cursor<'a> {
 
     /// Specifiers (C11 6.7), where so many brackets may be opened.
     pub fn specifiers(&mut self, alloc: Global, more: u32) -> Result<Specifiers, ParseFault>
-        requires { more ≤ 256 }
+        requires { more ≤ nesting_limit }
         ensures reads { Reads (grammar.specifiers more true self.old.state) self.old.end result self.new }
         ensures keeps { OnOk result (Keeps self.old.state self.new.state) }
         ensures ends { self.new.end ≡ self.old.end }
@@ -347,7 +345,7 @@ impl<'a> Cursor<'a> {
         more: u32,
         typed: bool,
     ) -> Result<Declarator, ParseFault>
-        requires { more ≤ 256 }
+        requires { more ≤ nesting_limit }
         ensures reads { Reads (grammar.declarator more facts.Declaring typed self.old.state) self.old.end result self.new }
         ensures keeps { OnOk result (Keeps self.old.state self.new.state) }
         ensures ends { self.new.end ≡ self.old.end }

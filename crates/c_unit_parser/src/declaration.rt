@@ -11,7 +11,7 @@ ghost use Rattle.c_unit_parser.specs.Parts as parts;
 
 use crate::cursor::Cursor;
 use crate::grammar::Grammar;
-use crate::memory::pushed;
+use crate::memory::{alone, pushed};
 use crate::wanted::{Found, Wanted};
 use c_expr_parser::{ParseFault, declared_name, have_typedef, name_type, or_drop};
 use c_tree::{Declaration, Declarator, InitDeclarator, Punct, Specifier, Start};
@@ -118,13 +118,13 @@ impl<F: Fn(Global, &mut Cursor<'_>, u32, Wanted) -> Result<Found, ParseFault>> G
         ensures keeps { OnOk result (Keeps input.old.state input.new.state) }
         ensures ends { input.new.end ≡ input.old.end }
     {
-        let mut found = pushed(Items::new(self.alloc), first)?;
+        let mut found = alone(self.alloc, first)?;
         for _turn in 0..input.left() {
             if !input.sees(Punct::Comma) {
                 return Ok(found);
             }
             let next = or_drop!(self.next_declarator(input, specifiers), found);
-            found = pushed(found, next)?;
+            found = pushed(self.alloc, found, next)?;
         }
         Ok(found)
     }

@@ -11,7 +11,7 @@ ghost use Rattle.c_unit_parser.specs.Parts as parts;
 
 use crate::cursor::Cursor;
 use crate::grammar::Grammar;
-use crate::memory::pushed;
+use crate::memory::{alone, pushed};
 use crate::wanted::{Found, Wanted};
 use c_expr_parser::{ParseFault, is_mark, or_drop};
 use c_tree::{Initialiser, InitialiserItem, Pos, Punct};
@@ -79,13 +79,13 @@ impl<F: Fn(Global, &mut Cursor<'_>, u32, Wanted) -> Result<Found, ParseFault>> G
         ensures ends { input.new.end ≡ input.old.end }
     {
         let first = self.first_initialiser(input)?;
-        let mut found = pushed(Items::new(self.alloc), first)?;
+        let mut found = alone(self.alloc, first)?;
         for _turn in 0..input.left() {
             if !goes_initialiser(input) {
                 return Ok(found);
             }
             let next = or_drop!(self.next_initialiser(input), found);
-            found = pushed(found, next)?;
+            found = pushed(self.alloc, found, next)?;
         }
         Ok(found)
     }

@@ -2,6 +2,7 @@
 //! It makes the grammar of what may still be nested and hands itself to it.
 
 ghost use Rattle.std.specs.Prelude.{◌≡◌, suc, ◌≤◌, OnOk};
+ghost use Rattle.c_tree.specs.Levelled.{nesting_limit};
 ghost use Rattle.c_expr_parser.specs.Reads.{Keeps};
 ghost use Rattle.c_unit_parser.specs.Wanted.{read};
 ghost use Rattle.c_unit_parser.specs.Reads.{Reads};
@@ -55,7 +56,7 @@ pub fn inside(
     more: u32,
     wanted: Wanted,
 ) -> Result<Found, ParseFault>
-    requires { more ≤ 256 }
+    requires { more ≤ nesting_limit }
     ensures reads { Reads (read more wanted input.old.state) input.old.end result input.new }
     ensures keeps { OnOk result (Keeps input.old.state input.new.state) }
     ensures ends { input.new.end ≡ input.old.end }

@@ -8,17 +8,23 @@ use c_expr_parser::ParseFault;
 use std::alloc::Global;
 use word_ops::{Boxed, Items};
 
+/// The list of one item.
+pub fn alone<T: Drop>(alloc: Global, item: T) -> Result<Items<T>, ParseFault>
+    ensures { MatchResult result (λ all. all ≡ item ∷ []) (λ e. e ≡ fault.Memory) }
+{
+    match c_expr_parser::alone(alloc, item) {
+        Ok(all) => Ok(all),
+        Err(_) => Err(ParseFault::Memory),
+    }
+}
+
 /// The list with an item more.
-pub fn pushed<T: Drop>(list: Items<T>, item: T) -> Result<Items<T>, ParseFault>
+pub fn pushed<T: Drop>(alloc: Global, list: Items<T>, item: T) -> Result<Items<T>, ParseFault>
     ensures { MatchResult result (λ all. all ≡ list ++ item ∷ []) (λ e. e ≡ fault.Memory) }
 {
-    let mut list = list;
-    match list.push(item) {
-        Ok(()) => Ok(list),
-        Err(_) => {
-            drop(list);
-            Err(ParseFault::Memory)
-        }
+    match c_expr_parser::pushed(alloc, list, item) {
+        Ok(all) => Ok(all),
+        Err(_) => Err(ParseFault::Memory),
     }
 }
 

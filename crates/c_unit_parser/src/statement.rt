@@ -248,7 +248,7 @@ impl<F: Fn(Global, &mut Cursor<'_>, u32, Wanted) -> Result<Found, ParseFault>> G
             }
             let next = or_drop!(self.one_else(input), found);
             may = next.head.is_some();
-            found = pushed(found, next)?;
+            found = pushed(self.alloc, found, next)?;
         }
         Ok(found)
     }

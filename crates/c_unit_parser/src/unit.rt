@@ -13,7 +13,7 @@ ghost use Rattle.c_unit_parser.specs.Parts as parts;
 
 use crate::cursor::Cursor;
 use crate::grammar::Grammar;
-use crate::memory::pushed;
+use crate::memory::{alone, pushed};
 use crate::nodes::{Beside, beside_name};
 use crate::wanted::{Found, Wanted};
 use c_expr_parser::{ParseFault, or_drop};
@@ -149,13 +149,13 @@ impl<F: Fn(Global, &mut Cursor<'_>, u32, Wanted) -> Result<Found, ParseFault>> G
         ensures ends { input.new.end ≡ input.old.end }
     {
         let first = self.external(input)?;
-        let mut found = pushed(Items::new(self.alloc), first)?;
+        let mut found = alone(self.alloc, first)?;
         for _turn in 0..input.left() {
             if !goes_external(input) {
                 return Ok(found);
             }
             let next = or_drop!(self.external(input), found);
-            found = pushed(found, next)?;
+            found = pushed(self.alloc, found, next)?;
         }
         Ok(found)
     }

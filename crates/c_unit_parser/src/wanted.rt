@@ -4,7 +4,7 @@
 use c_tree::{BlockItem, Declaration, Initialiser, Stmt};
 
 /// What is to be read.
-#[derive(Clone, Copy, PartialEq, Eq)]
+#[derive(Clone, Copy)]
 pub enum Wanted {
     /// An initialiser, in braces.
     Initialiser,

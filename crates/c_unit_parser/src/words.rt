@@ -28,7 +28,7 @@ pub fn is_word(kind: Option<&TokenKind>, word: Keyword) -> bool
 }
 
 /// The kinds of statements (C11 6.8).
-#[derive(Clone, Copy, PartialEq, Eq)]
+#[derive(Clone, Copy)]
 pub enum StatementKind {
     /// A block.
     Braced,
@@ -126,7 +126,7 @@ pub fn mark_begins_statement(op: Punct) -> bool
 }
 
 /// The kinds of items of a block (C11 6.8.2, 6.8.1).
-#[derive(Clone, Copy, PartialEq, Eq)]
+#[derive(Clone, Copy)]
 pub enum ItemKind {
     /// A declaration.
     Declaration,

@@ -1,0 +1,1 @@
+-- No definitions of its own: what the law says is told by those of c_layout and c_meaning.

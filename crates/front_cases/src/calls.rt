@@ -11,7 +11,7 @@ use crate::typed::{put_addresses, put_fault, put_given};
 use c_expr_parser::{Names, Use, assignment, conditional, declarator, expression, specifiers};
 use c_lexer::lex;
 use c_tree::typed::Typed;
-use c_tree::{Definition, External, TokenKind, Tokens, Unit, spell, spell_definition};
+use c_tree::{Definition, External, TokenKind, Tokens, Unit, definition_tokens, spell};
 use c_types::check;
 use c_unit_parser::parse;
 use scope_map::ScopeMap;
@@ -240,7 +240,7 @@ fn put_unit(
 {
     match call {
         Call::Count => put_count(alloc, out, tokens, unit),
-        Call::Definitions => put_lengths(alloc, out, unit.items.as_slice()),
+        Call::Definitions => put_lengths(out, unit.items.as_slice()),
         Call::Unit => put_externals(out, unit.items.as_slice()).map_err(Memory::from),
         call => put_checked(alloc, out, call, unit).map_err(Memory::from),
     }
@@ -284,16 +284,16 @@ fn put_spelling(
 }
 
 /// Puts how many tokens each function definition is spelt by.
-fn put_lengths(alloc: Global, out: &mut String, items: &[External]) -> Result<(), Memory> {
+fn put_lengths(out: &mut String, items: &[External]) -> Result<(), Memory> {
     for item in items {
         if let External::Definition(definition) = item {
-            put_length(alloc, out, definition)?;
+            put_length(out, definition)?;
         }
     }
     Ok(())
 }
 
-fn put_length(alloc: Global, out: &mut String, definition: &Definition) -> Result<(), Memory> {
-    let kinds = spell_definition(alloc, definition)?;
-    write!(out, "{} ", kinds.len()).map_err(Memory::from)
+fn put_length(out: &mut String, definition: &Definition) -> Result<(), Memory> {
+    let tokens = definition_tokens(definition)?;
+    write!(out, "{tokens} ").map_err(Memory::from)
 }

@@ -109,7 +109,7 @@ static TYPED: [Nest; 16] = [
             ")",
             ";}",
         ],
-        24,
+        254,
     ),
     // A chain of `else if` leads no deeper.
     (

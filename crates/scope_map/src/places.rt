@@ -46,13 +46,6 @@ impl Places {
         }
     }
 
-    /// How many numbers there are.
-    pub fn len(&self) -> usize
-        ensures { result ≡ length self.now }
-    {
-        self.links.len()
-    }
-
     /// The last place of a number, or `None` where it does not stand.
     pub fn last_of(&self, number: u64) -> Option<usize>
         ensures { IsLastOf (slice_get self.now) number (length self.now) result }

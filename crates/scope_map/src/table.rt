@@ -104,23 +104,6 @@ impl<K: Eq + Hash + Drop, V: Drop> ScopeMap<K, V> {
         Ok(())
     }
 
-    /// Puts a pair where a scope begins, as the last of the scope around it; what stands in the scope hides it.
-    ///
-    /// # Errors
-    ///
-    /// `Memory` where memory for the pair is wanting; what stands before the mark has not changed then.
-    pub fn insert_at(&mut self, mark: usize, key: K, value: V) -> Result<(), Memory>
-        requires { mark ≤ length self.old }
-        ensures put { OnOk result (self.new ≡ take mark self.old ++ ((key, value) ∷ drop mark self.old)) }
-        ensures kept { OnErr result (take mark self.new ≡ take mark self.old) }
-    {
-        self.pairs.insert(mark, (key, value))?;
-        self.hashes.truncate(mark);
-        let filled = fill(&mut self.hashes, &self.pairs);
-        self.pairs.truncate(self.hashes.len());
-        filled
-    }
-
     /// Marks the present scope: the number of pairs.
     pub fn mark(&self) -> usize
         ensures length { result ≡ length self.now }
@@ -148,17 +131,4 @@ fn hash_of<K: Hash>(key: &K) -> u64
     let mut hasher = FoldHasher::default();
     key.hash(&mut hasher);
     hasher.finish()
-}
-
-// Puts behind the hashes of the first pairs those of the others, as far as there is memory.
-fn fill<K: Hash, V>(hashes: &mut Places, pairs: &[(K, V)]) -> Result<(), Memory>
-    requires { hashes.old ≡ map (λ pair. hash_of (K.hash_input pair.0)) (take (length hashes.old) pairs.now) }
-    ensures prefix { hashes.new ≡ map (λ pair. hash_of (K.hash_input pair.0)) (take (length hashes.new) pairs.now) }
-    ensures longer { length hashes.old ≤ length hashes.new }
-    ensures full { OnOk result (length hashes.new ≡ length pairs.now) }
-{
-    while hashes.len() < pairs.len() {
-        hashes.push(hash_of(&pairs[hashes.len()].0))?;
-    }
-    Ok(())
 }

@@ -1,6 +1,9 @@
 -- What a call of the program comes to, by what is outside of it: a shelf of files, an input and an output.
 use Rattle.std.specs.Prelude.{◌≡◌, ℕ, ◌+◌, ◌%◌, ◌^◌, ◌<◌, ◌≤◌, ◌⊎◌, List, length, Option, Some, None}
 use Rattle.ccai_io.specs.Outside.{Files, Holds, Appends, AppendsPrefix, Rose}
+use Rattle.ccai_io.specs.declared.outside.Shelf.{Ghosts as Shelf}
+use Rattle.ccai_io.specs.declared.outside.Sink.{Ghosts as Sink}
+use Rattle.ccai_io.specs.declared.outside.Source.{Ghosts as Source}
 use Rattle.first_form.specs.Form.{Form, IsOfFirstForm}
 use Rattle.image_form.specs.declared.image.Image.{Image}
 use Rattle.image_form.specs.Form.{first_wrong}
@@ -22,8 +25,9 @@ pub record Streams : Type 0 where
   pub read_faults : ℕ
   pub write_faults : ℕ
 
-abbrev pub streams : Option (List ℕ) → Option (List ℕ) → ℕ → ℕ → Streams
-streams left' held' reads writes = record { left = left'; held = held'; read_faults = reads; write_faults = writes }
+-- what an input and an output tell
+abbrev pub streams : {R W : Type 0} → Source R → Sink W → R → W → Streams
+streams source sink input out = record { left = source.left input; held = sink.held out; read_faults = source.faults input; write_faults = sink.faults out }
 
 -- the files of the shelf, where they are told, how many files were asked for in vain and how many could not
 -- be read, and the streams
@@ -32,6 +36,10 @@ pub record Outside : Type 0 where
   pub absences : ℕ
   pub shelf_faults : ℕ
   pub streams : Streams
+
+-- what a shelf, an input and an output tell
+abbrev pub outside : {F R W : Type 0} → Shelf F → Source R → Sink W → F → R → W → Outside
+outside on source sink shelf input out = record { files = on.files shelf; absences = on.absences shelf; shelf_faults = on.faults shelf; streams = streams source sink input out }
 
 -- a machine in this state, with these streams
 abbrev pub world_of : Streams → State → World

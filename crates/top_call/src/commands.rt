@@ -2,7 +2,7 @@
 ghost use Rattle.std.specs.Prelude.{◌≡◌, ◌^◌, ◌≤◌, ◌*◌, length, map};
 ghost use Rattle.image_form.specs.Limits.{IsWithinLimits};
 ghost use Rattle.top_call.specs.CommandLine.{line_of};
-ghost use Rattle.top_call.specs.Drive.{Driven, Drives, OfFile, RunsImage, RunsSource, outcome_of_end, streams};
+ghost use Rattle.top_call.specs.Drive.{Driven, Drives, OfFile, RunsImage, RunsSource, outcome_of_end, outside, streams};
 ghost use Rattle.top_call.specs.Lines.{outcome_of};
 ghost use Rattle.top_call.specs.Steps.{MayRun, RunsConstants, outcome_of_fault};
 
@@ -35,8 +35,8 @@ pub fn drive<F: Shelf, R: Source, W: Sink, E: Sink>(
     err: &mut E,
 ) -> u8
     ensures { Driven (map (λ w. w.now) words.now)
-        (record { files = F.files shelf.old; absences = F.absences shelf.old; shelf_faults = F.faults shelf.old; streams = streams (R.left input.old) (W.held out.old) (R.faults input.old) (W.faults out.old) })
-        (record { files = F.files shelf.new; absences = F.absences shelf.new; shelf_faults = F.faults shelf.new; streams = streams (R.left input.new) (W.held out.new) (R.faults input.new) (W.faults out.new) })
+        (outside F.Shelf R.Source W.Sink shelf.old input.old out.old)
+        (outside F.Shelf R.Source W.Sink shelf.new input.new out.new)
         result (E.held err.old) (E.faults err.old) (E.held err.new) (E.faults err.new) }
 {
     let answer = answer_to(alloc, words, shelf, input, out);
@@ -53,9 +53,9 @@ fn answer_to<'a, F: Shelf, R: Source, W: Sink>(
     out: &mut W,
 ) -> Answer<'a>
     ensures { Drives (line_of (map (λ w. w.now) words.now))
-        (record { files = F.files shelf.old; absences = F.absences shelf.old; shelf_faults = F.faults shelf.old; streams = streams (R.left input.old) (W.held out.old) (R.faults input.old) (W.faults out.old) })
+        (outside F.Shelf R.Source W.Sink shelf.old input.old out.old)
         (outcome_of result)
-        (record { files = F.files shelf.new; absences = F.absences shelf.new; shelf_faults = F.faults shelf.new; streams = streams (R.left input.new) (W.held out.new) (R.faults input.new) (W.faults out.new) }) }
+        (outside F.Shelf R.Source W.Sink shelf.new input.new out.new) }
 {
     match read_line(words) {
         Some(Line::Exec(file)) => exec(alloc, file, shelf, input, out),
@@ -73,9 +73,9 @@ fn exec<'a, F: Shelf, R: Source, W: Sink>(
     out: &mut W,
 ) -> Answer<'a>
     ensures { OfFile RunsSource file.now
-        (record { files = F.files shelf.old; absences = F.absences shelf.old; shelf_faults = F.faults shelf.old; streams = streams (R.left input.old) (W.held out.old) (R.faults input.old) (W.faults out.old) })
+        (outside F.Shelf R.Source W.Sink shelf.old input.old out.old)
         (outcome_of result)
-        (record { files = F.files shelf.new; absences = F.absences shelf.new; shelf_faults = F.faults shelf.new; streams = streams (R.left input.new) (W.held out.new) (R.faults input.new) (W.faults out.new) }) }
+        (outside F.Shelf R.Source W.Sink shelf.new input.new out.new) }
 {
     match shelf.take(alloc, file) {
         Ok(bytes) => run_source(alloc, bytes.as_slice(), input, out),
@@ -92,9 +92,9 @@ fn run<'a, F: Shelf, R: Source, W: Sink>(
     out: &mut W,
 ) -> Answer<'a>
     ensures { OfFile RunsImage file.now
-        (record { files = F.files shelf.old; absences = F.absences shelf.old; shelf_faults = F.faults shelf.old; streams = streams (R.left input.old) (W.held out.old) (R.faults input.old) (W.faults out.old) })
+        (outside F.Shelf R.Source W.Sink shelf.old input.old out.old)
         (outcome_of result)
-        (record { files = F.files shelf.new; absences = F.absences shelf.new; shelf_faults = F.faults shelf.new; streams = streams (R.left input.new) (W.held out.new) (R.faults input.new) (W.faults out.new) }) }
+        (outside F.Shelf R.Source W.Sink shelf.new input.new out.new) }
 {
     match shelf.take(alloc, file) {
         Ok(bytes) => run_image(alloc, bytes.as_slice(), input, out),
@@ -120,7 +120,7 @@ fn run_source<R: Source, W: Sink>(
     input: &mut R,
     out: &mut W,
 ) -> Answer<'static>
-    ensures { RunsSource bytes.now (streams (R.left input.old) (W.held out.old) (R.faults input.old) (W.faults out.old)) (outcome_of result) (streams (R.left input.new) (W.held out.new) (R.faults input.new) (W.faults out.new)) }
+    ensures { RunsSource bytes.now (streams R.Source W.Sink input.old out.old) (outcome_of result) (streams R.Source W.Sink input.new out.new) }
 {
     if bytes.len() > SOURCE_LIMIT {
         return Answer::Room;
@@ -140,7 +140,7 @@ fn run_form<R: Source, W: Sink>(
     out: &mut W,
 ) -> Answer<'static>
     requires { 5 * length form.now.puts ≤ 2 ^ 24 }
-    ensures { RunsConstants form.now.puts form.now.status (streams (R.left input.old) (W.held out.old) (R.faults input.old) (W.faults out.old)) (outcome_of result) (streams (R.left input.new) (W.held out.new) (R.faults input.new) (W.faults out.new)) }
+    ensures { RunsConstants form.now.puts form.now.status (streams R.Source W.Sink input.old out.old) (outcome_of result) (streams R.Source W.Sink input.new out.new) }
 {
     match first_form::image(alloc, form) {
         Ok(image) => run_machine(alloc, &image, image.text.len() as u64, input, out),
@@ -155,7 +155,7 @@ fn run_image<R: Source, W: Sink>(
     input: &mut R,
     out: &mut W,
 ) -> Answer<'static>
-    ensures { RunsImage bytes.now (streams (R.left input.old) (W.held out.old) (R.faults input.old) (W.faults out.old)) (outcome_of result) (streams (R.left input.new) (W.held out.new) (R.faults input.new) (W.faults out.new)) }
+    ensures { RunsImage bytes.now (streams R.Source W.Sink input.old out.old) (outcome_of result) (streams R.Source W.Sink input.new out.new) }
 {
     match image_form::read(alloc, bytes) {
         Ok(image) => run_machine(alloc, &image, STEP_LIMIT, input, out),
@@ -173,7 +173,7 @@ fn run_machine<R: Source, W: Sink>(
     out: &mut W,
 ) -> Answer<'static>
     requires { IsWithinLimits image.now }
-    ensures { MayRun image.now steps (streams (R.left input.old) (W.held out.old) (R.faults input.old) (W.faults out.old)) (outcome_of result) (streams (R.left input.new) (W.held out.new) (R.faults input.new) (W.faults out.new)) }
+    ensures { MayRun image.now steps (streams R.Source W.Sink input.old out.old) (outcome_of result) (streams R.Source W.Sink input.new out.new) }
 {
     match rv_machine::load(alloc, image) {
         Ok(mut machine) => answer_of_end(rv_machine::run(&mut machine, input, out, steps)),

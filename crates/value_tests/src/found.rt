@@ -4,6 +4,7 @@
 use c_tree::{FaultKind, Pos};
 use c_type_walk::{Found, number_in};
 use c_typing::{Meaning, Tag};
+use indexed_list::IndexedList;
 use std::alloc::Global;
 use std::test::Fail;
 use word_ops::{Memory, Text};
@@ -71,15 +72,19 @@ fn faults_are_told_where_their_test_holds(rt: HostRuntime) -> Result<(), Fail> {
 }
 
 /// The number of a letter among `f`, `g` and `g`.
-fn number_among(alloc: Global, names: &[Text], letter: u8) -> Result<Option<u32>, Memory> {
+fn number_among(
+    alloc: Global,
+    names: &IndexedList<Text>,
+    letter: u8,
+) -> Result<Option<u32>, Memory> {
     let key = name(alloc, letter)?;
     number_in(names, &key)
 }
 
-fn names(alloc: Global) -> Result<Vec<Text>, Memory> {
-    let mut all = Vec::new(alloc);
+fn names(alloc: Global) -> Result<IndexedList<Text>, Memory> {
+    let mut all = IndexedList::new(alloc);
     for letter in b"fgg" {
-        all.push(name(alloc, *letter)?)?;
+        all.push(alloc, name(alloc, *letter)?)?;
     }
     Ok(all)
 }

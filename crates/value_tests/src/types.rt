@@ -72,8 +72,9 @@ fn arrays_are_compared(rt: HostRuntime) -> Result<(), Fail> {
     let t = array(rt.alloc(), Some(3))?;
     let u = array(rt.alloc(), None)?;
     assert!(rt; compatible(&t, &u) && alike(&u, &t) && !same_type(&t, &u));
-    let whole = composite(rt.alloc(), u, &t)?;
-    assert!(rt; same_type(&whole, &t));
+    let whole = composite(rt.alloc(), &u, &t);
+    drop(u);
+    assert!(rt; same_type(&whole?, &t));
     Ok(())
 }
 

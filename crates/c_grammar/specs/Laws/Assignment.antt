@@ -14,6 +14,7 @@ use Rattle.c_tree.specs.Levels.Names.{Names, in_row}
 use Rattle.c_tree.specs.Levels.Productions.{postfix, unary, cast, conditional, assignment, none, joins}
 use Rattle.c_tree.specs.Levels.Facts.{same, targets, Operand}
 use Rattle.c_tree.specs.Levels.Trees.{expr_level, next_level}
+use Rattle.c_grammar.specs.Laws.Tests.{and_false}
 use Rattle.c_grammar.specs.Laws.Told.{next_level-is, expr_level-Assign}
 use Rattle.c_tree.specs.Nesting.Trees.{expr_nesting, next_nesting, expr_nesting-Assign}
 use Rattle.c_grammar.specs.Input.{Tokens, Parser, peek, joins_with, goes, many_by}
@@ -106,13 +107,9 @@ next_assignment e (Some (k.Name text)) h n = omega arith
 next_assignment e (Some (k.Number value kind)) h n = omega arith
 next_assignment e (Some (k.Char value)) h n = omega arith
 
-and_no : (b : Bool) → (b && false) ≡ false
-and_no true = refl
-and_no false = refl
-
 no_assign : (e : Ending) (t : Bool) (names : Names) (rest : Tokens) → e.target ≡ t → assignment < goes_on e (peek rest) → (t && goes assignment (names, rest)) ≡ false
 no_assign e false names rest t h = refl
-no_assign e true names rest t h = no_goes assignment e names rest (omega arith) (and_no e.size) (ap (λ b. not b && same assignment assignment) t) h
+no_assign e true names rest t h = no_goes assignment e names rest (omega arith) (and_false e.size) (ap (λ b. not b && same assignment assignment) t) h
 
 -- ---- the operands behind the first
 
@@ -139,7 +136,7 @@ targets_kept more operand exact =
           record { good = (b.0, (goes_next assignment names n end.1 (subst (λ l. goes assignment (names, l) ≡ true) g.spelt b.1), g.good)); nested = g.nested; spelt = g.spelt; seen = g.seen; stops = g.stops };
       complete = λ u names n rest g d st. next.complete names n rest g.1.1 d st;
       starts = λ u names n rest g st. both_are u _ g.0 (next_goes assignment names n rest g.1.0);
-      ends = λ u names. ap (λ b. u && b) (goes_end assignment names (omega arith)) ∙ and_no u;
+      ends = λ u names. ap (λ b. u && b) (goes_end assignment names (omega arith)) ∙ and_false u;
       follows = λ u names x y rest g h st. before_next conditional assignment (expr_ending (operand_of x)) y rest (omega arith) h.1.0;
       some = λ u names n g. some_next n;
     }

@@ -13,6 +13,7 @@ use Rattle.c_tree.specs.declared.declarator.Direct.{Direct, out-Direct}
 use Rattle.c_tree.specs.declared.declarator.Direct.TheVariants as direct
 use Rattle.c_tree.specs.declared.declarator.DeclaratorSuffix.{DeclaratorSuffix}
 use Rattle.c_tree.specs.Spelling.Tokens.{punct, name as name_token, joined}
+use Rattle.c_grammar.specs.Laws.Tests.{and_false}
 use Rattle.c_grammar.specs.Laws.Spelled.{pointers as pointers_spelling}
 use Rattle.c_tree.specs.Spelling.Trees.{declarator_spelling, direct_spelling, declarator_suffix_spelling, declarator_spelling-is, direct_spelling-Nothing, direct_spelling-Named, direct_spelling-Grouped, declarator_suffix_spelling-Array, declarator_suffix_spelling-ArrayOf, declarator_suffix_spelling-Empty, declarator_suffix_spelling-Void, declarator_suffix_spelling-Parameters}
 use Rattle.c_tree.specs.Levels.Names.{Names, is_typedef_name, in_row}
@@ -138,15 +139,11 @@ no_name_typed DirectShape.a_nothing names h = ap (λ f. (f names).0.begins_typed
 no_name_typed (DirectShape.a_named id) names h = absurd (let e : false ≡ true = sym (ap (λ f. is_none (f names).0.name) (direct_level-Named id)) ∙ h in cc)
 no_name_typed (DirectShape.a_grouped from d to) names h = ap (λ f. (f names).0.begins_typed) (direct_level-Grouped from d to)
 
-and_no : (b : Bool) → (b && false) ≡ false
-and_no true = refl
-and_no false = refl
-
 pub unnamed_untyped : (d : Declarator) (names : Names) → is_none (declarator_level d names).0.name ≡ true → (declarator_level d names).0.begins_typed ≡ false
 unnamed_untyped d names h =
     let q = out-Declarator d in
     ap (λ f. (f names).0.begins_typed) (declarator_level-is d)
-    ∙ ap (λ b. not (filled q.pointers) && b) (no_name_typed (direct_shape q.direct) names (sym (ap (λ f. is_none (f names).0.name) (declarator_level-is d)) ∙ h)) ∙ and_no (not (filled q.pointers))
+    ∙ ap (λ b. not (filled q.pointers) && b) (no_name_typed (direct_shape q.direct) names (sym (ap (λ f. is_none (f names).0.name) (declarator_level-is d)) ∙ h)) ∙ and_false (not (filled q.pointers))
 
 -- a declarator with a name is not nothing in the middle
 named_middle : {d : Direct} → DirectShape d → (names : Names) → is_some (direct_level d names).0.name ≡ true → is_no_name d ≡ false

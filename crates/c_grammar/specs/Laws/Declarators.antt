@@ -23,6 +23,7 @@ use Rattle.c_tree.specs.Levels.Names.{Names, in_row}
 use Rattle.c_tree.specs.Levels.Productions.{conditional}
 use Rattle.c_tree.specs.Levels.Facts.{Use, Declaring, Abstract, Parameter, declares, suffixes_good, only_void, rest_listed, listed_parameters}
 use Rattle.c_tree.specs.Levels.Trees.{expr_level, declarator_level, declarator_suffix_level, direct_level, parameter_level}
+use Rattle.c_grammar.specs.Laws.Tests.{and_false}
 use Rattle.c_grammar.specs.Laws.Told.{direct_level-Nothing, parameter_level-is, declarator_level-is, declarator_suffix_level-Array, declarator_suffix_level-ArrayOf, declarator_suffix_level-Empty, declarator_suffix_level-Void, declarator_suffix_level-Parameters}
 use Rattle.c_tree.specs.Nesting.Trees.{declarator_suffix_nesting, parameter_nesting, declarator_nesting-is, declarator_suffix_nesting-Array, declarator_suffix_nesting-ArrayOf, declarator_suffix_nesting-Empty, declarator_suffix_nesting-Void, declarator_suffix_nesting-Parameters}
 use Rattle.c_grammar.specs.Punctuators.{same_mark}
@@ -507,10 +508,6 @@ no_group Declaring names kind n h = absurd (n refl)
 no_group Abstract names kind n h = ap not h
 no_group Parameter names kind n h = ap not h
 
-and_no : (b : Bool) → (b && false) ≡ false
-and_no true = refl
-and_no false = refl
-
 takes_none : (purpose : Use) (typed : Bool) (names : Names) (op : Punct) (at : Pos) (rest : Tokens) → takes_name purpose typed names (peek (punct op at ∷ rest)) ≡ false
 takes_none Declaring typed names op at rest = ap (takes_name Declaring typed names) (peek_mark op at rest)
 takes_none Abstract typed names op at rest = refl
@@ -530,7 +527,7 @@ nothing_before purpose typed names x rest n (inr i) g =
     subst (λ x. (declarator_suffix_level x names).0.good ≡ true → nothing_stop true purpose typed names (declarator_suffix_spelling x ++ rest)) i.1 (λ g.
     subst (λ l. nothing_stop true purpose typed names (l ++ rest)) (sym (tail_spelt i.0.0 i.0.1)) (
       ap (λ l. sees p.LeftParen (names, punct p.LeftParen i.0.0 ∷ ts) && opens_declarator purpose names (peek l)) (behind_first (punct p.LeftParen i.0.0) ts)
-          ∙ ap (λ b. sees p.LeftParen (names, punct p.LeftParen i.0.0 ∷ ts) && b) (no_group purpose names (peek ts) n (begins_tail names i.0.1 rest (tail_parts names i.0.0 i.0.1 g))) ∙ and_no _,
+          ∙ ap (λ b. sees p.LeftParen (names, punct p.LeftParen i.0.0 ∷ ts) && b) (no_group purpose names (peek ts) n (begins_tail names i.0.1 rest (tail_parts names i.0.0 i.0.1 g))) ∙ and_false _,
       takes_none purpose typed names p.LeftParen i.0.0 ts,
     )) g
 

@@ -16,6 +16,7 @@ use Rattle.c_tree.specs.Spelling.Trees.{expr_spelling, enumerator_spelling, enum
 use Rattle.c_tree.specs.Levels.Names.{Names}
 use Rattle.c_tree.specs.Levels.Productions.{conditional, joins}
 use Rattle.c_tree.specs.Levels.Trees.{expr_level, enumerator_level}
+use Rattle.c_grammar.specs.Laws.Tests.{and_false}
 use Rattle.c_grammar.specs.Laws.Told.{enumerator_level-Plain, enumerator_level-Valued}
 use Rattle.c_tree.specs.Nesting.OfTrees.{deepest}
 use Rattle.c_tree.specs.Nesting.Trees.{expr_nesting, enumerator_nesting, enumerator_nesting-Plain, enumerator_nesting-Valued}
@@ -350,11 +351,7 @@ braced_closes t None to names rest = braced_before t.0 t.1 names p.RightBrace to
 braced_closes t (Some at) to names rest =
     braced_before t.0 t.1 names p.Comma at (punct p.RightBrace to ∷ rest) comma_ends
     (ap (λ l. sees p.Comma (names, punct p.Comma at ∷ (punct p.RightBrace to ∷ rest)) && is_name (peek l)) (behind_first (punct p.Comma at) (punct p.RightBrace to ∷ rest))
-    ∙ ap (λ o. sees p.Comma (names, punct p.Comma at ∷ (punct p.RightBrace to ∷ rest)) && is_name o) (peek_mark p.RightBrace to rest) ∙ and_no _)
-  where
-    and_no : (b : Bool) → (b && false) ≡ false
-    and_no true = refl
-    and_no false = refl
+    ∙ ap (λ o. sees p.Comma (names, punct p.Comma at ∷ (punct p.RightBrace to ∷ rest)) && is_name o) (peek_mark p.RightBrace to rest) ∙ and_false _)
 
 comma_closes : (c : Option Pos) (names : Names) (at : Pos) (rest : Tokens) → comma_stop c names (punct p.RightBrace at ∷ rest)
 comma_closes None names at rest = unlike p.RightBrace p.Comma at rest refl

@@ -26,6 +26,7 @@ use Rattle.c_tree.specs.Spelling.Trees.{member_spelling, enumerator_spelling, sp
 use Rattle.c_tree.specs.Levels.Names.{Names, is_typedef_name, in_row}
 use Rattle.c_tree.specs.Levels.Facts.{Declaring, declares}
 use Rattle.c_tree.specs.Levels.Trees.{specifier_level, member_level, declarator_level}
+use Rattle.c_grammar.specs.Laws.Tests.{and_false}
 use Rattle.c_grammar.specs.Laws.Told.{direct_level-Named, specifier_level-Word, specifier_level-StructTag, specifier_level-Struct, specifier_level-EnumTag, specifier_level-Enum, enumerator_level-Plain}
 use Rattle.c_grammar.specs.Punctuators.{same_mark-true}
 use Rattle.c_grammar.specs.Input.{Tokens, peek, is_mark}
@@ -226,14 +227,10 @@ module _ (w : Bool) where
       (ap (λ o. is_tag (last_of I x xs) && is_mark p.LeftBrace o) (peek_first t b) ∙ sym (ap (λ o. is_tag (last_of I x xs) && is_mark p.LeftBrace o) (peek_first t a)) ∙ stop_last I false x xs behind (t ∷ a) h)
       (ap (begins_specifier w (left I false (x ∷ xs)) behind) (peek_first t b) ∙ sym (ap (begins_specifier w (left I false (x ∷ xs)) behind) (peek_first t a)) ∙ stop_goes I false (x ∷ xs) behind (t ∷ a) h)
 
-  and_no : (b : Bool) → (b && false) ≡ false
-  and_no true = refl
-  and_no false = refl
-
   at_end : (xs : List Specifier) (behind : Names) → (xs ≡ [] → ⊥) → all_stop I false xs behind []
   unfolding peek
   at_end [] behind n = absurd (n refl)
-  at_end (x ∷ xs) behind n = stop_made I false x xs behind [] (and_no (is_tag (last_of I x xs))) refl
+  at_end (x ∷ xs) behind n = stop_made I false x xs behind [] (and_false (is_tag (last_of I x xs))) refl
 
   pub specifiers_stop : Stops (specifiers_form w)
   specifiers_stop = record {

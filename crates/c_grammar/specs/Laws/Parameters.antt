@@ -16,6 +16,7 @@ use Rattle.c_tree.specs.Spelling.Trees.{declarator_spelling, parameter_spelling,
 use Rattle.c_tree.specs.Levels.Names.{Names, in_row}
 use Rattle.c_tree.specs.Levels.Facts.{filled, SpecifierKind, has_typedef, facts_of_specifiers, Use, Declaring, Abstract, Parameter, declares, names_of}
 use Rattle.c_tree.specs.Levels.Trees.{specifier_level, declarator_level, direct_level, parameter_level}
+use Rattle.c_grammar.specs.Laws.Tests.{and_false}
 use Rattle.c_grammar.specs.Laws.Told.{declarator_level-is, parameter_level-is, direct_level-Nothing, direct_level-Named, direct_level-Grouped, specifier_level-Storage, specifier_level-Const, specifier_level-Word, specifier_level-StructTag, specifier_level-Struct, specifier_level-EnumTag, specifier_level-Enum, specifier_level-TypedefName}
 use Rattle.c_tree.specs.Levels.OfTrees.{kind_of_word, is_typedef}
 use Rattle.c_tree.specs.declared.specifier.TypeWord.{TypeWord}
@@ -145,12 +146,8 @@ specifiers_by w s (x ∷ xs) names t ts b h =
     or_assoc true b c = refl
     or_assoc false b c = refl
 
-    and_no : (b : Bool) → (b && false) ≡ false
-    and_no true = refl
-    and_no false = refl
-
     last_one : (xs : List Specifier) → last_stop (specifier_items w) x xs names (t ∷ ts)
-    last_one [] = ap (λ o. is_tag x && is_mark p.LeftBrace o) (peek_first t ts) ∙ ap (λ c. is_tag x && c) b ∙ and_no (is_tag x)
+    last_one [] = ap (λ o. is_tag x && is_mark p.LeftBrace o) (peek_first t ts) ∙ ap (λ c. is_tag x && c) b ∙ and_false (is_tag x)
     last_one (y ∷ ys) = tt
 
 -- a declarator's first token is no specifier behind those before it

@@ -16,6 +16,7 @@ use Rattle.c_tree.specs.Levels.Names.{Names, in_row}
 use Rattle.c_tree.specs.Levels.Productions.{primary, postfix, unary, cast, assignment, comma, none, joins}
 use Rattle.c_tree.specs.Levels.Facts.{all_good as all_true}
 use Rattle.c_tree.specs.Levels.Trees.{expr_level, suffix_level}
+use Rattle.c_grammar.specs.Laws.Tests.{and_false}
 use Rattle.c_grammar.specs.Laws.Told.{expr_level-Postfix, suffix_level-Index, suffix_level-Call, suffix_level-CallWith, suffix_level-Member, suffix_level-Arrow, suffix_level-Increment, suffix_level-Decrement}
 use Rattle.c_tree.specs.Nesting.OfTrees.{deepest}
 use Rattle.c_tree.specs.Nesting.Trees.{expr_nesting, next_nesting, suffix_nesting, expr_nesting-Postfix, suffix_nesting-Index, suffix_nesting-Call, suffix_nesting-CallWith, suffix_nesting-Member, suffix_nesting-Arrow, suffix_nesting-Increment, suffix_nesting-Decrement}
@@ -293,45 +294,45 @@ increment_begins = image_begins suffix.Increment suffix_spelling p.Increment (λ
 decrement_begins : (x : Suffix) → Image suffix.Decrement x → Begins p.Decrement (suffix_spelling x)
 decrement_begins = image_begins suffix.Decrement suffix_spelling p.Decrement (λ t. suffix_first (SuffixShape.a_decrement t))
 
--- what is left behind each choice
-abbrev W1 : Suffix → Type 0
-W1 x = Image suffix.Increment x ⊎ Image suffix.Decrement x
+-- the kinds of suffixes from each choice on, in the order in which they are tried
+abbrev Stepped : Suffix → Type 0
+Stepped x = Image suffix.Increment x ⊎ Image suffix.Decrement x
 
-abbrev W2 : Suffix → Type 0
-W2 x = Image arrow_of x ⊎ W1 x
+abbrev FromArrow : Suffix → Type 0
+FromArrow x = Image arrow_of x ⊎ Stepped x
 
-abbrev W3 : Suffix → Type 0
-W3 x = Image member_of x ⊎ W2 x
+abbrev FromMember : Suffix → Type 0
+FromMember x = Image member_of x ⊎ FromArrow x
 
-abbrev W4 : Suffix → Type 0
-W4 x = Image call_of x ⊎ W3 x
+abbrev FromCall : Suffix → Type 0
+FromCall x = Image call_of x ⊎ FromMember x
 
-abbrev W5 : Suffix → Type 0
-W5 x = Image index_of x ⊎ W4 x
+abbrev FromIndex : Suffix → Type 0
+FromIndex x = Image index_of x ⊎ FromCall x
 
-not_arrow : (names : Names) (x : Suffix) (rest : Tokens) → W1 x → sees p.Arrow (names, suffix_spelling x ++ rest) ≡ false
+not_arrow : (names : Names) (x : Suffix) (rest : Tokens) → Stepped x → sees p.Arrow (names, suffix_spelling x ++ rest) ≡ false
 not_arrow names x rest (inl i) = begins_seen p.Arrow p.Increment names _ rest false (increment_begins x i) refl
 not_arrow names x rest (inr i) = begins_seen p.Arrow p.Decrement names _ rest false (decrement_begins x i) refl
 
-not_dot : (names : Names) (x : Suffix) (rest : Tokens) → W2 x → sees p.Dot (names, suffix_spelling x ++ rest) ≡ false
+not_dot : (names : Names) (x : Suffix) (rest : Tokens) → FromArrow x → sees p.Dot (names, suffix_spelling x ++ rest) ≡ false
 not_dot names x rest (inl i) = begins_seen p.Dot p.Arrow names _ rest false (arrow_begins x i) refl
 not_dot names x rest (inr (inl i)) = begins_seen p.Dot p.Increment names _ rest false (increment_begins x i) refl
 not_dot names x rest (inr (inr i)) = begins_seen p.Dot p.Decrement names _ rest false (decrement_begins x i) refl
 
-not_paren : (names : Names) (x : Suffix) (rest : Tokens) → W3 x → sees p.LeftParen (names, suffix_spelling x ++ rest) ≡ false
+not_paren : (names : Names) (x : Suffix) (rest : Tokens) → FromMember x → sees p.LeftParen (names, suffix_spelling x ++ rest) ≡ false
 not_paren names x rest (inl i) = begins_seen p.LeftParen p.Dot names _ rest false (member_begins x i) refl
 not_paren names x rest (inr (inl i)) = begins_seen p.LeftParen p.Arrow names _ rest false (arrow_begins x i) refl
 not_paren names x rest (inr (inr (inl i))) = begins_seen p.LeftParen p.Increment names _ rest false (increment_begins x i) refl
 not_paren names x rest (inr (inr (inr i))) = begins_seen p.LeftParen p.Decrement names _ rest false (decrement_begins x i) refl
 
-not_bracket : (names : Names) (x : Suffix) (rest : Tokens) → W4 x → sees p.LeftBracket (names, suffix_spelling x ++ rest) ≡ false
+not_bracket : (names : Names) (x : Suffix) (rest : Tokens) → FromCall x → sees p.LeftBracket (names, suffix_spelling x ++ rest) ≡ false
 not_bracket names x rest (inl i) = begins_seen p.LeftBracket p.LeftParen names _ rest false (call_begins x i) refl
 not_bracket names x rest (inr (inl i)) = begins_seen p.LeftBracket p.Dot names _ rest false (member_begins x i) refl
 not_bracket names x rest (inr (inr (inl i))) = begins_seen p.LeftBracket p.Arrow names _ rest false (arrow_begins x i) refl
 not_bracket names x rest (inr (inr (inr (inl i)))) = begins_seen p.LeftBracket p.Increment names _ rest false (increment_begins x i) refl
 not_bracket names x rest (inr (inr (inr (inr i)))) = begins_seen p.LeftBracket p.Decrement names _ rest false (decrement_begins x i) refl
 
-suffix_is : {x : Suffix} → SuffixShape x → W5 x
+suffix_is : {x : Suffix} → SuffixShape x → FromIndex x
 suffix_is (SuffixShape.a_index from inner to) = inl (((from, inner), to), refl)
 suffix_is (SuffixShape.a_call from to) = inr (inl ((from, inl to), refl))
 suffix_is (SuffixShape.a_call_with from first rest to) = inr (inl ((from, inr ((first, rest), to)), refl))
@@ -348,11 +349,11 @@ pub record InsideExpr (more : ℕ) (inner : Inner) : Type 0 where
 suffix_exact : (more : ℕ) (inner : Inner) → InsideExpr more inner → Exact suffix_form more (one_suffix more inner)
 unfolding one_suffix
 suffix_exact more inner inside =
-    whole_exact W5 suffix_form more _ (λ names x g. suffix_is (suffix_shape x))
-    (choose_exact (Image index_of) W4 suffix_form more (sees p.LeftBracket) (index more inner) _ (index_exact more inner inside.comma_is)
-    (choose_exact (Image call_of) W3 suffix_form more (sees p.LeftParen) (call more inner) _ (call_exact more inner inside.assignment_is)
-    (choose_exact (Image member_of) W2 suffix_form more (sees p.Dot) (member more inner) _ (member_exact more inner)
-    (choose_exact (Image arrow_of) W1 suffix_form more (sees p.Arrow) (arrow more inner) _ (arrow_exact more inner)
+    whole_exact FromIndex suffix_form more _ (λ names x g. suffix_is (suffix_shape x))
+    (choose_exact (Image index_of) FromCall suffix_form more (sees p.LeftBracket) (index more inner) _ (index_exact more inner inside.comma_is)
+    (choose_exact (Image call_of) FromMember suffix_form more (sees p.LeftParen) (call more inner) _ (call_exact more inner inside.assignment_is)
+    (choose_exact (Image member_of) FromArrow suffix_form more (sees p.Dot) (member more inner) _ (member_exact more inner)
+    (choose_exact (Image arrow_of) Stepped suffix_form more (sees p.Arrow) (arrow more inner) _ (arrow_exact more inner)
     (choose_exact (Image suffix.Increment) (Image suffix.Decrement) suffix_form more (sees p.Increment) (increment more inner) (decrement more inner) (increment_exact more inner) (decrement_exact more inner)
     (λ names x rest i g s. begins_seen p.Increment p.Increment names _ rest true (increment_begins x i) refl)
     (λ names x rest i g s. begins_seen p.Increment p.Decrement names _ rest false (decrement_begins x i) refl))
@@ -497,10 +498,6 @@ postfix_stop a [] behind rest h = next_production primary postfix (expr_ending a
 postfix_stop a (x ∷ xs) behind rest h =
     subst (λ e. postfix < goes_on e (peek rest)) (sym (expr_ending-Postfix a (x ∷ xs)))
     (next_production primary postfix plain (peek rest) (omega arith) (omega arith) (primary_stop plain rest refl) (stop_goes suffix_items tt (x ∷ xs) behind rest h))
-
-and_false : (b : Bool) → (b && false) ≡ false
-and_false true = refl
-and_false false = refl
 
 postfix_from_stop : (names : Names) (a : Expr) (xs : List Suffix) (behind : Names) (rest : Tokens) → (expr_level a names).0 ≤ primary → postfix < goes_on (expr_ending (with_suffixes a xs)) (peek rest) → postfix_form.stop (a, xs) behind rest
 postfix_from_stop names a [] behind rest g h =

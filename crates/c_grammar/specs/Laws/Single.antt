@@ -12,6 +12,7 @@ use Rattle.c_tree.specs.Spelling.Tokens.{token, punct, name as name_token}
 use Rattle.c_tree.specs.Levels.Names.{Names}
 use Rattle.c_grammar.specs.Punctuators.{same_mark, same_mark-true, same_mark-itself}
 use Rattle.c_grammar.specs.Input.{Tokens, State, Outcome, peek, sees, too_deep, took, one, mark_at, identifier_at, expect, identifier, opening}
+use Rattle.c_grammar.specs.Laws.Tests.{and_false}
 use Rattle.c_grammar.specs.Laws.Form.{Form, Got, Exact, only, ok_pair}
 
 -- one token, which declares nothing and with which nothing goes on
@@ -159,10 +160,6 @@ sees_mark op names at rest = same_mark-itself op
 zero_is : (k : ℕ) → (suc k == 0) ≡ false
 zero_is k = grind (arith, nat_tests)
 
-both_false : (a : Bool) → (a && false) ≡ false
-both_false true = refl
-both_false false = refl
-
 module _ (op : Punct) where
   -- where the bracket is read it is seen
   taken_is_seen : (names : Names) (ts : Tokens) (at : Pos) (s : State) → expect op (names, ts) ≡ Ok (at, s) → sees op (names, ts) ≡ true
@@ -187,7 +184,7 @@ module _ (op : Punct) where
   opening_complete zero names at rest h = absurd (omega arith)
   opening_complete (suc k) names at rest h =
       ap (λ b. cond (sees op (names, punct op at ∷ rest) && b) (too_deep (names, punct op at ∷ rest)) (expect op (names, punct op at ∷ rest))) (zero_is k)
-      ∙ ap (λ b. cond b (too_deep (names, punct op at ∷ rest)) (expect op (names, punct op at ∷ rest))) (both_false (sees op (names, punct op at ∷ rest)))
+      ∙ ap (λ b. cond b (too_deep (names, punct op at ∷ rest)) (expect op (names, punct op at ∷ rest))) (and_false (sees op (names, punct op at ∷ rest)))
       ∙ (expect_exact op (suc k)).complete names at rest tt (omega arith) tt
 
   pub opening_exact : (more : ℕ) → Exact (opening_form op) more (opening more op)

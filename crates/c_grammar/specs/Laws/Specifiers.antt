@@ -24,6 +24,7 @@ use Rattle.c_tree.specs.Levels.Names.{Names, is_typedef_name, in_row}
 use Rattle.c_tree.specs.Levels.Facts.{Use, all_good as all_true, rest_listed}
 use Rattle.c_tree.specs.Levels.OfTrees.{kind_of_word}
 use Rattle.c_tree.specs.Levels.Trees.{specifier_level, member_level, enumerator_level}
+use Rattle.c_grammar.specs.Laws.Tests.{and_false}
 use Rattle.c_grammar.specs.Laws.Told.{specifier_level-Storage, specifier_level-Const, specifier_level-Word, specifier_level-StructTag, specifier_level-Struct, specifier_level-EnumTag, specifier_level-Enum, specifier_level-TypedefName}
 use Rattle.c_tree.specs.Levels.Productions.{conditional}
 use Rattle.c_tree.specs.Nesting.Trees.{specifier_nesting, member_nesting, specifier_nesting-Storage, specifier_nesting-Const, specifier_nesting-Word, specifier_nesting-StructTag, specifier_nesting-Struct, specifier_nesting-EnumTag, specifier_nesting-Enum, specifier_nesting-TypedefName}
@@ -671,14 +672,10 @@ specifier_no_brace w typed names (k.Number value kind) h = absurd cc
 specifier_no_brace w typed names (k.Char value) h = absurd cc
 specifier_no_brace w typed names (k.Bytes bytes) h = absurd cc
 
-and_no : (b : Bool) → (b && false) ≡ false
-and_no true = refl
-and_no false = refl
-
 specifier_then : (w typed : Bool) (names : Names) (x y : Specifier) (rest : Tokens) → (specifier_items w).good typed names y → (is_tag x && is_mark p.LeftBrace (peek (specifier_spelling y ++ rest))) ≡ false
 specifier_then w typed names x y rest g =
     let s = specifier_starts w typed names y g in
-    ap (λ b. is_tag x && b) (first_key _ s.first s.others rest (is_mark p.LeftBrace) false s.spelt (specifier_no_brace w typed names s.first.kind s.good)) ∙ and_no (is_tag x)
+    ap (λ b. is_tag x && b) (first_key _ s.first s.others rest (is_mark p.LeftBrace) false s.spelt (specifier_no_brace w typed names s.first.kind s.good)) ∙ and_false (is_tag x)
 
 no_specifier : (w typed : Bool) (names : Names) → begins_specifier w typed names (peek []) ≡ false
 unfolding peek

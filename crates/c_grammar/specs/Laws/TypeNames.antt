@@ -16,6 +16,7 @@ use Rattle.c_tree.specs.Spelling.Trees.{declarator_spelling, type_name_spelling,
 use Rattle.c_tree.specs.Levels.Names.{Names, in_row}
 use Rattle.c_tree.specs.Levels.Facts.{filled, specify, names_type, has_storage, facts_of_specifiers, SpecifierKind, Storing, Qualifying, Voiding, Typing, Naming, Use, Declaring, Abstract, Parameter, declares}
 use Rattle.c_tree.specs.Levels.Trees.{specifier_level, declarator_level, type_name_level}
+use Rattle.c_grammar.specs.Laws.Tests.{and_false}
 use Rattle.c_grammar.specs.Laws.Told.{type_name_level-is, specifier_level-Storage, specifier_level-Const, specifier_level-Word, specifier_level-StructTag, specifier_level-Struct, specifier_level-EnumTag, specifier_level-Enum, specifier_level-TypedefName}
 use Rattle.c_tree.specs.Levels.OfTrees.{kind_of_word}
 use Rattle.c_tree.specs.declared.specifier.TypeWord.{TypeWord}
@@ -161,10 +162,6 @@ pub record Ending (op : Punct) : Type 0 where
   pub paren : same_mark op p.LeftParen ≡ false
   pub bracket : same_mark op p.LeftBracket ≡ false
   pub star : same_mark op p.Star ≡ false
-
-and_false : (b : Bool) → (b && false) ≡ false
-and_false true = refl
-and_false false = refl
 
 pub unlike : (op other : Punct) (at : Pos) (rest : Tokens) → same_mark op other ≡ false → is_mark other (peek (punct op at ∷ rest)) ≡ false
 unlike op other at rest e = ap (is_mark other) (peek_mark op at rest) ∙ e

@@ -24,6 +24,7 @@ use Rattle.c_tree.specs.Levels.Names.{Names, in_row}
 use Rattle.c_tree.specs.Levels.Productions.{primary, postfix, prefixed, unary, cast, comma, none, joins}
 use Rattle.c_tree.specs.Levels.Facts.{PrefixKind, Wrong, Loose, Tight, Typed, kind_of_mark, runs_on, begins_typed}
 use Rattle.c_tree.specs.Levels.Trees.{expr_level, prefix_level, type_name_level}
+use Rattle.c_grammar.specs.Laws.Tests.{and_false}
 use Rattle.c_grammar.specs.Laws.Told.{expr_level-Strings, expr_level-Paren, expr_level-SizeofType, expr_level-Prefixed, prefix_level-Operator, prefix_level-Sizeof, prefix_level-Cast}
 use Rattle.c_tree.specs.Nesting.Trees.{expr_nesting, prefix_nesting, expr_nesting-SizeofType, expr_nesting-Prefixed, prefix_nesting-Operator, prefix_nesting-Sizeof, prefix_nesting-Cast}
 use Rattle.c_grammar.specs.Input.{Tokens, State, peek, behind, is_mark, sees, one, expect, opening, many_by}
@@ -418,10 +419,7 @@ shape_follows (PrefixShape.a_cast from type to) names y rest g = cast_no_sizeof 
 
 no_prefix : (tight : Bool) (names : Names) → goes_prefix tight (names, []) ≡ false
 unfolding goes_prefix sees_sizeof_type sees_cast peek
-no_prefix tight names = and_no (not tight) where
-  and_no : (b : Bool) → (b && false) ≡ false
-  and_no true = refl
-  and_no false = refl
+no_prefix tight names = and_false (not tight)
 
 some_prefix : {x : Prefix} → PrefixShape x → 0 < length (prefix_spelling x)
 some_prefix (PrefixShape.a_operator m) = rw (prefix_spelling-Operator m) (omega arith)
@@ -473,14 +471,10 @@ pub record NoPrefix (names : Names) (ts : Tokens) : Type 0 where
   pub goes : (tight : Bool) → goes_prefix tight (names, ts) ≡ false
   pub casts : sees_cast (names, ts) ≡ false
 
-and_no : (b : Bool) → (b && false) ≡ false
-and_no true = refl
-and_no false = refl
-
 -- by the first token, where it is no mark
 unmarked : (names : Names) (t : Token) (ts : Tokens) → begins_mark (Some t.kind) ≡ false → is_sizeof (Some t.kind) ≡ false → sees_cast (names, t ∷ ts) ≡ false → NoPrefix names (t ∷ ts)
 unfolding goes_prefix sees_sizeof_type
-unmarked names t ts a b c = record { goes = λ tight. rw (peek_first t ts, a, b, c) (and_no (not tight)); casts = c }
+unmarked names t ts a b c = record { goes = λ tight. rw (peek_first t ts, a, b, c) (and_false (not tight)); casts = c }
 
 unopened : (names : Names) (t : Token) (ts : Tokens) → begins_mark (Some t.kind) ≡ false → is_sizeof (Some t.kind) ≡ false → is_mark p.LeftParen (Some t.kind) ≡ false → NoPrefix names (t ∷ ts)
 unopened names t ts a b c = unmarked names t ts a b (no_paren_no_cast names (t ∷ ts) (ap (is_mark p.LeftParen) (peek_first t ts) ∙ c))
@@ -492,7 +486,7 @@ paren_no_cast names from to inner rest g =
     ap (λ l. sees p.LeftParen (names, punct p.LeftParen from ∷ l) && begins_type names (peek (behind (punct p.LeftParen from ∷ l)))) (ap (λ l. l ++ rest) s.spelt)
     ∙ ap (λ l. sees p.LeftParen (names, punct p.LeftParen from ∷ (s.first ∷ (s.others ++ rest))) && begins_type names (peek l)) (behind_first (punct p.LeftParen from) (s.first ∷ (s.others ++ rest)))
     ∙ ap (λ o. sees p.LeftParen (names, punct p.LeftParen from ∷ (s.first ∷ (s.others ++ rest))) && begins_type names o) (peek_first s.first (s.others ++ rest))
-    ∙ ap (λ b. sees p.LeftParen (names, punct p.LeftParen from ∷ (s.first ∷ (s.others ++ rest))) && b) (no_type names s.first.kind s.good) ∙ and_no _
+    ∙ ap (λ b. sees p.LeftParen (names, punct p.LeftParen from ∷ (s.first ∷ (s.others ++ rest))) && b) (no_type names s.first.kind s.good) ∙ and_false _
 
 primary_no_prefix : {x : Expr} → ExprShape x → (names : Names) (rest : Tokens) → (expr_level x names).0 ≤ primary → NoPrefix names (expr_spelling x ++ rest)
 primary_no_prefix (ExprShape.a_name id) names rest h = subst (λ l. NoPrefix names (l ++ rest)) (sym (expr_spelling-Name id)) (unopened names _ rest refl refl refl)
@@ -527,7 +521,7 @@ unfolding goes_prefix sees_sizeof_type
 sizeof_no_prefix names at from type rest g =
     let tail : Tokens = punct p.LeftParen from ∷ (type_name_spelling type ++ rest) in
     let shut : sees_cast (names, keyword word.Sizeof at ∷ tail) ≡ false = no_paren_no_cast names (keyword word.Sizeof at ∷ tail) (ap (is_mark p.LeftParen) (peek_first (keyword word.Sizeof at) tail)) in
-    record { goes = λ tight. rw (peek_first (keyword word.Sizeof at) tail, behind_first (keyword word.Sizeof at) tail, sees_type names from type rest g, shut) (and_no (not tight)); casts = shut }
+    record { goes = λ tight. rw (peek_first (keyword word.Sizeof at) tail, behind_first (keyword word.Sizeof at) tail, sees_type names from type rest g, shut) (and_false (not tight)); casts = shut }
 
 -- ---- `sizeof` `(` type name `)`
 
@@ -685,7 +679,7 @@ run_form = seq (list prefix_items false) (λ run. expr_form prefixed)
 
 run_stops : (run : List Prefix) (names : Names) (ts : Tokens) → NoPrefix names ts → all_stop prefix_items false run names ts
 run_stops [] names ts n = n.goes false
-run_stops (x ∷ xs) names ts n = stop_made prefix_items false x xs names ts (ap (λ b. is_sizeof_prefix (last_of prefix_items x xs) && b) n.casts ∙ and_no _) (n.goes _)
+run_stops (x ∷ xs) names ts n = stop_made prefix_items false x xs names ts (ap (λ b. is_sizeof_prefix (last_of prefix_items x xs) && b) n.casts ∙ and_false _) (n.goes _)
 
 pub run_good : (names : Names) (run : List Prefix) (a : Expr) → run_form.good names (run, a) → (expr_level (with_run run a) names).0 ≤ cast
 run_good names [] a g = let h = subst (λ n. (expr_level a n).0 ≤ prefixed) (append-nil names) g.1 in omega arith

@@ -20,6 +20,7 @@ use Rattle.c_tree.specs.Spelling.Trees.{specifier_spelling, declarator_spelling,
 use Rattle.c_tree.specs.Levels.Names.{Names, in_row}
 use Rattle.c_tree.specs.Levels.Facts.{SpecifierKind, Voiding, is_void as kinds_void, only_void}
 use Rattle.c_tree.specs.Levels.Trees.{specifier_level, parameter_level}
+use Rattle.c_grammar.specs.Laws.Tests.{and_false}
 use Rattle.c_grammar.specs.Laws.Told.{parameter_level-is, specifier_level-Storage, specifier_level-Const, specifier_level-Word, specifier_level-StructTag, specifier_level-Struct, specifier_level-EnumTag, specifier_level-Enum, specifier_level-TypedefName}
 use Rattle.c_grammar.specs.Input.{Tokens, peek, behind, is_mark}
 use Rattle.c_grammar.specs.Read.Nodes.{is_type, is_nothing}
@@ -72,10 +73,6 @@ void_or (SpecifierShape.a_typedef_name id) = inr (record { seen = λ rest. first
 behind_first : (t : Token) (ts : Tokens) → behind (t ∷ ts) ≡ ts
 unfolding behind
 behind_first t ts = refl
-
-and_no : (b : Bool) → (b && false) ≡ false
-and_no true = refl
-and_no false = refl
 
 pub specifier_no_close : (w typed : Bool) (names : Names) (kind : TokenKind) → begins_specifier w typed names (Some kind) ≡ true → is_mark p.RightParen (Some kind) ≡ false
 specifier_no_close w typed names (k.Keyword key) h = refl
@@ -173,4 +170,4 @@ void_is names x (y ∷ ys) at rest g commas =
     ap void_seen (append_assoc (parameter_spelling x) (parameter_spelling y ++ joined (map parameter_spelling ys)) (punct p.RightParen at ∷ rest)
     ∙ ap (λ l. parameter_spelling x ++ l) (append_assoc (parameter_spelling y) (joined (map parameter_spelling ys)) (punct p.RightParen at ∷ rest)))
     ∙ first_void names x (parameter_spelling y ++ tail) g
-    ∙ ap (λ b. (parameter_level x names).0.is_void && b) (next_no_close y (out-Parameter y).comma tail refl (commas y ys refl)) ∙ and_no (parameter_level x names).0.is_void
+    ∙ ap (λ b. (parameter_level x names).0.is_void && b) (next_no_close y (out-Parameter y).comma tail refl (commas y ys refl)) ∙ and_false (parameter_level x names).0.is_void

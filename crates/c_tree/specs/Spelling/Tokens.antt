@@ -1,5 +1,5 @@
 -- Tokens and lists of tokens, from which spellings are made.
-use Rattle.std.specs.Prelude.{List, [], ◌∷◌, ◌++◌, Option, Some, None, map}
+use Rattle.std.specs.Prelude.{ℕ, zero, suc, List, [], ◌∷◌, ◌++◌, Option, Some, None, map}
 use Rattle.c_tree.specs.declared.token.Pos.{Pos}
 use Rattle.c_tree.specs.declared.token.Punct.{Punct}
 use Rattle.c_tree.specs.declared.token.Punct.TheVariants as p
@@ -45,6 +45,16 @@ name id = token (k.Name id.text) id.place
 abbrev pub kinds : Spelling → List TokenKind
 kinds [] = []
 kinds (t ∷ ts) = t.kind ∷ kinds ts
+
+-- what is kept of the kinds of tokens
+abbrev pub told : {A : Type 0} → (TokenKind → A) → Spelling → List A
+told shown [] = []
+told shown (t ∷ ts) = shown t.kind ∷ told shown ts
+
+-- a list of nothing but its length
+abbrev pub units : ℕ → List (Unit {0})
+units zero = []
+units (suc n) = tt ∷ units n
 
 -- spellings one after another
 abbrev pub joined : List Spelling → Spelling

@@ -1,4 +1,5 @@
-//! Tokens that are put behind the kinds so far.
+//! Tokens, and short runs of them, that are taken behind those so far.
+//! What stands here leads to no tree.
 
 ghost use Rattle.std.specs.Prelude.{◌≡◌, ◌++◌, ◌∷◌, [], OnOk, map};
 ghost use Rattle.c_tree.specs.Spelling.Tokens as spec;
@@ -6,59 +7,49 @@ ghost use Rattle.c_tree.specs.Spelling.Tokens as spec;
 use crate::declarator::Pointer;
 use crate::expression::{Identifier, Literal, Mark};
 use crate::specifier::{Storage, TypeWord};
+use crate::spelling::taker::Taker;
 use crate::token::{Keyword, Pos, Punct, TokenKind};
-use std::alloc::Global;
-use word_ops::{Memory, Text};
+use word_ops::Memory;
 
-pub(super) fn punct(out: &mut Vec<TokenKind>, punct: Punct) -> Result<(), Memory>
-    ensures { OnOk result (out.new.items ≡ out.old.items ++ TokenKind.Punct punct ∷ []) }
+pub(super) fn punct<S: Taker>(out: &mut S, punct: Punct) -> Result<(), Memory>
+    ensures { OnOk result (S.taken out.new ≡ S.taken out.old ++ S.shown (TokenKind.Punct punct) ∷ []) }
 {
-    out.push(TokenKind::Punct(punct))?;
+    out.take(TokenKind::Punct(punct))?;
     Ok(())
 }
 
-pub(super) fn keyword(out: &mut Vec<TokenKind>, keyword: Keyword) -> Result<(), Memory>
-    ensures { OnOk result (out.new.items ≡ out.old.items ++ TokenKind.Keyword keyword ∷ []) }
+pub(super) fn keyword<S: Taker>(out: &mut S, keyword: Keyword) -> Result<(), Memory>
+    ensures { OnOk result (S.taken out.new ≡ S.taken out.old ++ S.shown (TokenKind.Keyword keyword) ∷ []) }
 {
-    out.push(TokenKind::Keyword(keyword))?;
+    out.take(TokenKind::Keyword(keyword))?;
     Ok(())
 }
 
-pub(super) fn identifier(
-    alloc: Global,
-    out: &mut Vec<TokenKind>,
-    id: &Identifier,
-) -> Result<(), Memory>
-    ensures { OnOk result (out.new.items ≡ out.old.items ++ spec.kinds (spec.name id.now ∷ [])) }
+pub(super) fn identifier<S: Taker>(out: &mut S, id: &Identifier) -> Result<(), Memory>
+    ensures { OnOk result (S.taken out.new ≡ S.taken out.old ++ spec.told S.shown (spec.name id.now ∷ [])) }
 {
-    let text = Text::from_vec(Vec::from_slice(alloc, id.text.as_slice())?);
-    out.push(TokenKind::Name(text))?;
+    out.take_name(id.text.as_slice())?;
     Ok(())
 }
 
-fn literal(alloc: Global, out: &mut Vec<TokenKind>, one: &Literal) -> Result<(), Memory>
-    ensures { OnOk result (out.new.items ≡ out.old.items ++ spec.kinds (spec.literal_spelling one.now)) }
+fn literal<S: Taker>(out: &mut S, one: &Literal) -> Result<(), Memory>
+    ensures { OnOk result (S.taken out.new ≡ S.taken out.old ++ spec.told S.shown (spec.literal_spelling one.now)) }
 {
-    let bytes = Text::from_vec(Vec::from_slice(alloc, one.bytes.as_slice())?);
-    out.push(TokenKind::Bytes(bytes))?;
+    out.take_bytes(one.bytes.as_slice())?;
     Ok(())
 }
 
-pub(super) fn literals(
-    alloc: Global,
-    out: &mut Vec<TokenKind>,
-    all: &[Literal],
-) -> Result<(), Memory>
-    ensures { OnOk result (out.new.items ≡ out.old.items ++ spec.kinds (spec.joined (map spec.literal_spelling all.now))) }
+pub(super) fn literals<S: Taker>(out: &mut S, all: &[Literal]) -> Result<(), Memory>
+    ensures { OnOk result (S.taken out.new ≡ S.taken out.old ++ spec.told S.shown (spec.joined (map spec.literal_spelling all.now))) }
 {
     for one in all {
-        literal(alloc, out, one)?;
+        literal(out, one)?;
     }
     Ok(())
 }
 
-pub(super) fn comma_at(out: &mut Vec<TokenKind>, comma: &Option<Pos>) -> Result<(), Memory>
-    ensures { OnOk result (out.new.items ≡ out.old.items ++ spec.kinds (spec.comma_at comma.now)) }
+pub(super) fn comma_at<S: Taker>(out: &mut S, comma: &Option<Pos>) -> Result<(), Memory>
+    ensures { OnOk result (S.taken out.new ≡ S.taken out.old ++ spec.told S.shown (spec.comma_at comma.now)) }
 {
     match comma {
         Some(_) => {
@@ -69,24 +60,20 @@ pub(super) fn comma_at(out: &mut Vec<TokenKind>, comma: &Option<Pos>) -> Result<
     }
 }
 
-pub(super) fn name_at(
-    alloc: Global,
-    out: &mut Vec<TokenKind>,
-    name: &Option<Identifier>,
-) -> Result<(), Memory>
-    ensures { OnOk result (out.new.items ≡ out.old.items ++ spec.kinds (spec.name_at name.now)) }
+pub(super) fn name_at<S: Taker>(out: &mut S, name: &Option<Identifier>) -> Result<(), Memory>
+    ensures { OnOk result (S.taken out.new ≡ S.taken out.old ++ spec.told S.shown (spec.name_at name.now)) }
 {
     match name {
         Some(id) => {
-            identifier(alloc, out, id)?;
+            identifier(out, id)?;
             Ok(())
         }
         None => Ok(()),
     }
 }
 
-fn consts(out: &mut Vec<TokenKind>, all: &[Pos]) -> Result<(), Memory>
-    ensures { OnOk result (out.new.items ≡ out.old.items ++ spec.kinds (spec.joined (map spec.const_spelling all.now))) }
+fn consts<S: Taker>(out: &mut S, all: &[Pos]) -> Result<(), Memory>
+    ensures { OnOk result (S.taken out.new ≡ S.taken out.old ++ spec.told S.shown (spec.joined (map spec.const_spelling all.now))) }
 {
     for _place in all {
         keyword(out, Keyword::Const)?;
@@ -94,8 +81,8 @@ fn consts(out: &mut Vec<TokenKind>, all: &[Pos]) -> Result<(), Memory>
     Ok(())
 }
 
-pub(super) fn pointers(out: &mut Vec<TokenKind>, all: &[Pointer]) -> Result<(), Memory>
-    ensures { OnOk result (out.new.items ≡ out.old.items ++ spec.kinds (spec.joined (map spec.pointer_spelling all.now))) }
+pub(super) fn pointers<S: Taker>(out: &mut S, all: &[Pointer]) -> Result<(), Memory>
+    ensures { OnOk result (S.taken out.new ≡ S.taken out.old ++ spec.told S.shown (spec.joined (map spec.pointer_spelling all.now))) }
 {
     for one in all {
         punct(out, Punct::Star)?;

@@ -1,3 +1,6 @@
+//! Typed expressions: each with its type, conversions written out and designators as addresses (C11 6.5, 6.3).
+//! Typing gives them, and lowering reads nothing else.
+
 use crate::typed::operator::{Arithmetic, Change, Primary, Unary};
 use crate::typed::types::CType;
 use word_ops::{Boxed, Items};

@@ -1,3 +1,6 @@
+//! The operators of typed expressions: how a scalar is kept, how it is read, and which arithmetic is done (C11 6.2.5, 6.5).
+//! Each is an operation on words of 32 bits or on addresses.
+
 use word_ops::{Op, Width};
 
 /// How the value of an object of scalar type is kept (C11 6.2.5p21).

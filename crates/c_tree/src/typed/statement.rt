@@ -1,3 +1,6 @@
+//! Typed statements: objects of blocks, initial values part by part, and jumps (C11 6.7.9, 6.8).
+//! Labels of a switch have their values as words.
+
 use crate::typed::expression::TExpr;
 use crate::typed::operator::Scalar;
 use crate::typed::unit::Object;

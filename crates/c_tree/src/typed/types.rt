@@ -1,3 +1,6 @@
+//! Types (C11 6.2.5): base types, and the pointers, arrays and functions that are derived of them.
+//! A tag stands by its number in the table of tags.
+
 use word_ops::Items;
 
 /// A base type: one that is made of no other (C11 6.2.5).

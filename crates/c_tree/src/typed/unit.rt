@@ -1,3 +1,6 @@
+//! A typed unit (C11 6.9): its objects with their initial values, its functions with their bodies, and `main`.
+//! What `check` gives.
+
 use crate::typed::operator::Scalar;
 use crate::typed::statement::TStmt;
 use crate::typed::types::CType;

@@ -7,13 +7,15 @@ use Rattle.c_tree.specs.declared.refusal.FaultKind.TheVariants as kind
 use Rattle.c_tree.specs.declared.typed.types.Base.TheVariants as base
 use Rattle.c_tree.specs.declared.typed.types.CType.{CType}
 use Rattle.c_tree.specs.declared.typed.types.Derived.TheVariants as derived
+use Rattle.c_tree.specs.declared.typed.types.Derived.TheBlock.{shown-the_row-Derived-0, hidden-the_row-CType-1}
+use denote.Hole.Carrier.{shown, hidden}
 use Rattle.c_tree.specs.declared.declarator.DeclaratorSuffix.TheOpen.{Direct-F, DeclaratorSuffix-F, Specifier-F, Enumerator-F, Expr-F}
 use Rattle.c_layout.specs.ConstantNodes.{has_constant_form-Primary, number_of-Primary}
 use Rattle.c_typing.specs.Faults.{Fault, fault}
-use Rattle.c_typing.specs.Types.{made}
+use Rattle.c_typing.specs.Types.{made, composite}
 use Rattle.c_typing.specs.Scopes.{Walk, ◌>>=◌}
-use Rattle.c_typing.specs.Declarators.{Expressed, Declaring, Suffixed, Specified, Enumerated, Members, declared_type, specifiers_row}
-use Rattle.c_typing.specs.OfTrees.{typed_expr, typed_declarator, typed_direct, typed_declarator_suffix, typed_specifier, typed_member, typed_member_declarator, typed_enumerator, typed_type_name, basis_type}
+use Rattle.c_typing.specs.Declarators.{Expressed, Declaring, Suffixed, Specified, Enumerated, Members, basis_type, declared_type, specifiers_row}
+use Rattle.c_typing.specs.OfTrees.{typed_expr, typed_declarator, typed_direct, typed_declarator_suffix, typed_specifier, typed_member, typed_member_declarator, typed_enumerator, typed_type_name}
 use Rattle.c_typing.specs.Examples.Read.{at, id, name, constant, words, inside, with, first_fault}
 
 ruleset constants = (has_constant_form-Primary, number_of-Primary)
@@ -63,6 +65,10 @@ size_of_type s = typed_expr (Expr-F.SizeofType (at 1) (at 2)
 abbrev enum_of : List Enumerated → Expressed
 enum_of enumerators = size_of_type (typed_specifier (Specifier-F.Enum (at 1) None (at 5) enumerators None (at 0)))
 
+-- a function that gives an int and takes a pointer to an array of so many
+abbrev takes_array : Option ℕ → CType
+takes_array n = made base.Int false (derived.Function (made base.Int false (derived.Array n ∷ derived.Pointer false ∷ []) ∷ []) ∷ [])
+
 -- what specifiers and declarators come to
 pub record DeclaratorsTyped : Type 0 where
   -- `int a[3]`
@@ -99,8 +105,12 @@ pub record DeclaratorsTyped : Type 0 where
   pub enumerator_twice : first_fault (enum_of (typed_enumerator (Enumerator-F.Plain None (id 6 65)) ∷ typed_enumerator (Enumerator-F.Plain None (id 8 65)) ∷ [])).typed (with []) ≡
       Some (fault kind.Redeclared (at 8))
   pub enumerators : first_fault (enum_of (typed_enumerator (Enumerator-F.Plain None (id 6 65)) ∷ typed_enumerator (Enumerator-F.Plain None (id 8 66)) ∷ [])).typed (with []) ≡ None
+  -- `int f(int (*)[]);` with `int f(int (*)[3]);`, in this order and in the other
+  pub parameter_completed : composite (takes_array None) (takes_array (Some 3)) ≡ takes_array (Some 3)
+  pub parameter_kept : composite (takes_array (Some 3)) (takes_array None) ≡ takes_array (Some 3)
 
 pub declarators_typed : DeclaratorsTyped
+unfolding shown-the_row-Derived-0 hidden-the_row-CType-1 shown hidden
 declarators_typed = record {
   array = simp constants;
   array_of_arrays = simp constants;
@@ -120,4 +130,6 @@ declarators_typed = record {
   size_of_void = refl;
   enumerator_twice = refl;
   enumerators = refl;
+  parameter_completed = refl;
+  parameter_kept = refl;
 }

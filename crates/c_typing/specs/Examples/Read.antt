@@ -1,6 +1,6 @@
 -- Parts of a source as typing reads them, for examples. Each is made from its parts by the step for its node; by the equation for
 -- that node (`Trees`) this is what typing makes of the tree itself. Places are columns of line 1; those that no row asks are 0.
-use Rattle.std.specs.Prelude.{ℕ, ◌+◌, List, [], ◌∷◌, Option, None, false, map}
+use Rattle.std.specs.Prelude.{ℕ, ◌+◌, List, [], ◌∷◌, Option, None, false, map, codes}
 use Rattle.std.specs.Option.{option_map}
 use Rattle.c_tree.specs.declared.token.Pos.{Pos}
 use Rattle.c_tree.specs.declared.token.Punct.{Punct}
@@ -13,7 +13,7 @@ use Rattle.c_tree.specs.declared.typed.types.CType.{CType}
 use Rattle.c_tree.specs.declared.declarator.DeclaratorSuffix.TheOpen.{Expr-F, Suffix-F, Prefix-F, Specifier-F, Direct-F, DeclaratorSuffix-F}
 use Rattle.c_typing.specs.Faults.{Fault, first_of}
 use Rattle.c_typing.specs.Types.{int}
-use Rattle.c_typing.specs.Scopes.{Meaning, Around, State, Walk}
+use Rattle.c_typing.specs.Scopes.{Meaning, Around, State, Walk, no_scope}
 use Rattle.c_typing.specs.Declarators.{Expressed, Declaring, Suffixed, Specified}
 use Rattle.c_typing.specs.Parts.{Suffixing}
 use Rattle.c_typing.specs.OfInitialisers.{Initialising}
@@ -103,6 +103,8 @@ abbrev pub with : List (List ℕ × Meaning) → State
 with names = record {
   names = names;
   tags = [];
+  outer = no_scope;
+  listed = no_scope;
   structs = [];
   fixed = [];
   enums = 0;
@@ -149,7 +151,7 @@ abbrev pub defines : List Specified → Declaring → List Itemised → Defined
 defines specifiers d items = record { specifiers = specifiers; declaring = d; body = items; tokens = 0 }
 
 abbrev pub main_text : List ℕ
-main_text = 109 ∷ 97 ∷ 105 ∷ 110 ∷ []
+main_text = codes "main"
 
 -- `int main(void){`, of 15 bytes, from this column on; what stands in its body; `}`
 abbrev pub main_from : ℕ → List Itemised → Defined

@@ -27,6 +27,7 @@ use Rattle.c_tree.specs.Nesting.Statements.{stmt_nesting, block_nesting, block_i
 use Rattle.c_grammar.specs.Punctuators.{same_mark}
 use Rattle.c_grammar.specs.Input.{Tokens, Parser, peek, is_mark, sees, expect, opening, many, choose, enclosed}
 use Rattle.c_grammar.specs.Read.Inner.{word_begins, begins_specifier}
+use Rattle.c_grammar.specs.Laws.Tests.{and_false}
 use Rattle.c_grammar.specs.Laws.Form.{Form, Exact, Guarded, Node, Image, only, both, node_exact, same_exact, whole_exact, three, choose_guarded, guarded_exact, quieted}
 use Rattle.c_grammar.specs.Laws.Lists.{Items, Kept, all_good, all_stop, list, list_exact, last_of, stop_made, added_in_row}
 use Rattle.c_grammar.specs.Laws.Rows.{pre, pre_exact, post, post_exact, deeper, bracketed, bracketed_exact}
@@ -142,13 +143,9 @@ items labels = record {
   step = λ s x. tt;
 }
 
-and_no : (b : Bool) → (b && false) ≡ false
-and_no true = refl
-and_no false = refl
-
 -- a token that is no `else` behind an item
 item_before : (l : BlockItemLayer) (t : Token) (ts : Tokens) → is_word word.Else (Some t.kind) ≡ false → item_stop l (t ∷ ts)
-item_before (BlockItem-F.Statement s) t ts e = ap (λ o. takes s && is_word word.Else o) (peek_first t ts) ∙ ap (λ b. takes s && b) e ∙ and_no (takes s)
+item_before (BlockItem-F.Statement s) t ts e = ap (λ o. takes s && is_word word.Else o) (peek_first t ts) ∙ ap (λ b. takes s && b) e ∙ and_false (takes s)
 item_before (BlockItem-F.Declaration d) t ts e = tt
 item_before (BlockItem-F.Case at value colon) t ts e = tt
 item_before (BlockItem-F.Default at colon) t ts e = tt

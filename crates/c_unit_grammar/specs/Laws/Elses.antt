@@ -17,6 +17,7 @@ use Rattle.c_tree.specs.Levels.OfStatements.{condition_level}
 use Rattle.c_tree.specs.Levels.Statements.{stmt_level, else_level, else_level-is, stmt_level-If}
 use Rattle.c_tree.specs.Nesting.Statements.{else_nesting, else_nesting-is, stmt_nesting-If}
 use Rattle.c_grammar.specs.Input.{Tokens, State, Outcome, Parser, and_then, ◌>>=◌, pure, refuse, choose, peek, loop, many_by}
+use Rattle.c_grammar.specs.Laws.Tests.{and_false}
 use Rattle.c_grammar.specs.Laws.Form.{Form, Exact, Guarded, Node, Image, only, both, map_to, node_exact, same_exact, whole_exact, two, three, four, bind_same, choose_same, choose_map, either, either_guarded, quieted}
 use Rattle.c_grammar.specs.Laws.Lists.{Items, Kept, all_good, chain, chain_exact, left, last_of, stop_goes, stop_last, stop_made}
 use Rattle.c_grammar.specs.Laws.Rows.{pre, pre_exact}
@@ -172,20 +173,16 @@ else_first e = ((out-Else e).word, _, else_spelling-is e)
 abbrev reads_turn : Parser Else → Turn → Parser Else
 reads_turn reads s = choose (λ i. s.1 && is_word word.Else (peek i.1)) refuse reads
 
-no_turn : (b : Bool) → (b && false) ≡ false
-no_turn true = refl
-no_turn false = refl
-
 ended : (s : Turn) (names : Names) → goes_turn s (names, []) ≡ false
 unfolding peek
-ended s names = no_turn s.0
+ended s names = and_false s.0
 
 module _ (more : ℕ) (reads : Parser Else) (exact : Exact else_form more reads) where
   turn_by : (s : Turn) (names : Names) (ts : Tokens) (e : Else) (end : State) (seen taking : Bool) → is_word word.Else (peek ts) ≡ seen → s.1 ≡ taking → (s.0 && seen) ≡ true
       → cond (taking && seen) (refuse (names, ts)) (reads (names, ts)) ≡ Ok (e, end) → ((s.0 ≡ true) × (s.1 ≡ false)) × (reads (names, ts) ≡ Ok (e, end))
   turn_by s names ts e end true true q r go h = absurd cc
   turn_by s names ts e end true false q r go h = (((both_true s.0 true go).0, r), h)
-  turn_by s names ts e end false taking q r go h = absurd (let z : false ≡ true = sym (no_turn s.0) ∙ go in cc)
+  turn_by s names ts e end false taking q r go h = absurd (let z : false ≡ true = sym (and_false s.0) ∙ go in cc)
 
   elses_kept : Kept elses more (reads_turn reads)
   elses_kept = record {
@@ -325,7 +322,7 @@ join_or true b c h g = h
 join_or false b c h g = g
 
 any_and : (b c : Bool) → c ≡ false → (b && c) ≡ false
-any_and b c e = ap (λ c. b && c) e ∙ no_turn b
+any_and b c e = ap (λ c. b && c) e ∙ and_false b
 
 if_stop : (t : (Pos × Condition) × Stmt) (es : List Else) (names : Names) (rest : Tokens) → if_form.stop (t, es) names rest → no_else (takes (if_of (t, es))) rest
 if_stop t [] names rest h = ap (λ b. b && is_word word.Else (peek rest)) (sym (if_takes (t, []) [])) ∙ h.1

@@ -22,6 +22,7 @@ use Rattle.c_tree.specs.Nesting.OfStatements.{value_nesting}
 use Rattle.c_tree.specs.Nesting.Statements.{stmt_nesting-Expression, stmt_nesting-While, stmt_nesting-Do, stmt_nesting-For, stmt_nesting-Switch, stmt_nesting-Break, stmt_nesting-Continue, stmt_nesting-Return}
 use Rattle.c_grammar.specs.Input.{Tokens, State, Parser, and_then, peek, expect, enclosed}
 use Rattle.c_grammar.specs.Read.Depth.{expression}
+use Rattle.c_grammar.specs.Laws.Tests.{and_false}
 use Rattle.c_grammar.specs.Laws.Form.{Form, Exact, Node, Image, only, map_to, node_exact, same_exact, two, three, five, quieted, enclosed_map}
 use Rattle.c_grammar.specs.Laws.Single.{mark_form, expect_exact}
 use Rattle.c_grammar.specs.Laws.Rows.{pre, pre_exact, post, post_exact, closed, closed_exact}
@@ -49,13 +50,9 @@ in_scope F f more p whole same exact to from node =
     same_exact (only (Image f) stmt_form) more _ _ (λ i. enclosed_same whole (map_to p f) same i ∙ enclosed_map p f i)
     (node_exact (quieted F) f stmt_form more (enclosed p) (enclosed_exact F more p exact to from) node)
 
-and_no : (b : Bool) → (b && false) ≡ false
-and_no true = refl
-and_no false = refl
-
 -- a token that is no `else` behind a statement
 pub body_before : (s : Stmt) (t : Token) (ts : Tokens) → is_word word.Else (Some t.kind) ≡ false → no_else (takes s) (t ∷ ts)
-body_before s t ts e = ap (λ o. takes s && is_word word.Else o) (peek_first t ts) ∙ ap (λ b. takes s && b) e ∙ and_no (takes s)
+body_before s t ts e = ap (λ o. takes s && is_word word.Else o) (peek_first t ts) ∙ ap (λ b. takes s && b) e ∙ and_false (takes s)
 
 -- behind a statement that takes no `else` anything may stand
 pub free : (s : Stmt) (rest : Tokens) → takes s ≡ false → no_else (takes s) rest

@@ -1,4 +1,4 @@
-use Rattle.std.proofs.Common.{◌≡◌, ◌∙◌, refl}
+use Rattle.std.proofs.Common.{◌∙◌}
 use Rattle.c_layout.proofs.Caps.{aligned_more}
 use Rattle.c_layout.proofs.sizes.aligned.Goals as goal
 

@@ -1,4 +1,3 @@
-use Rattle.std.proofs.Common.{◌∙◌, ap, is_some}
 use Rattle.c_layout.proofs.Completeness.{size_of-complete}
 use Rattle.c_layout.proofs.sizes.size.Goals as goal
 

@@ -1,4 +1,4 @@
-use Rattle.std.proofs.Common.{◌≡◌, ◌∙◌, refl, [], get_or}
+use Rattle.std.proofs.Common.{◌∙◌, []}
 use Rattle.c_layout.specs.Sizes.{derived_size}
 use Rattle.c_layout.proofs.Caps.{sized_more, sized_capped}
 use Rattle.c_layout.proofs.sizes.sized.Goals as goal

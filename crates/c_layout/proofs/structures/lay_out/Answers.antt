@@ -1,8 +1,8 @@
-use Rattle.std.proofs.Common.{◌≡◌, ◌++◌, ◌∷◌, ◌∙◌, [], sym, max, arith, true, append_assoc, refl}
+use Rattle.std.proofs.Common.{◌≡◌, ◌∷◌, ◌∙◌, [], sym, max, arith, append_assoc, refl}
 use Rattle.std.proofs.lemmas.Grind.{common_steps}
-use Rattle.c_layout.specs.Sizes.{is_complete, capped}
-use Rattle.c_layout.specs.Structures.{Declared, start_behind, end_of, next_multiple, bytes_of, strictness_of, strictest}
-use Rattle.c_layout.proofs.Members.{All-next, end_of-more, placed-more, strictest-more, next_multiple_capped, sum_capped, is_alignment-positive, is_alignment-max}
+use Rattle.c_layout.specs.Sizes.{capped}
+use Rattle.c_layout.specs.Structures.{Declared, start_behind, end_of, bytes_of, strictness_of}
+use Rattle.c_layout.proofs.Members.{end_of-more, placed-more, strictest-more, next_multiple_capped, sum_capped, is_alignment-positive, is_alignment-max}
 use Rattle.c_layout.proofs.structures.lay_out.Goals as goal
 
 pub loop-name-preserved : goal.loop-name-preserved

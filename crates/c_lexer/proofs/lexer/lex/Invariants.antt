@@ -1,5 +1,5 @@
 use Rattle.std.proofs.Common.{◌≡◌, ◌+◌, ◌<◌, ◌^◌, length}
-use Rattle.c_lexer.specs.Tokens.{start, place_after, pieces_from, tokens_of}
+use Rattle.c_lexer.specs.Tokens.{place_after, pieces_from, tokens_of}
 use Rattle.c_lexer.specs.Scan.{outcome_from}
 use Rattle.c_lexer.proofs.lexer.lex.Given as goal
 

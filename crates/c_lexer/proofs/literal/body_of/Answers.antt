@@ -1,4 +1,4 @@
-use Rattle.std.proofs.Common.{◌+◌, ◌∷◌, drop, ap, rules, arith}
+use Rattle.std.proofs.Common.{◌+◌, ◌∷◌, drop, ap, rules}
 use Rattle.std.proofs.lemmas.List.{take_rest}
 use Rattle.c_lexer.specs.declared.literal.Element.{Element}
 use Rattle.c_lexer.specs.Literals.{elements_from}

@@ -1,4 +1,4 @@
-use Rattle.std.proofs.Common.{◌≡◌, false, ◌&&◌, ap, rules, arith}
+use Rattle.std.proofs.Common.{◌≡◌, false, ◌&&◌, rules}
 use Rattle.std.proofs.lemmas.Bool.{and_left, and_right, ne_eqb}
 use Rattle.c_lexer.specs.Fronts.{is_empty}
 use Rattle.c_lexer.specs.Literals.{is_single_quote, elements_of}

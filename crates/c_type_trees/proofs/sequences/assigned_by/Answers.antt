@@ -11,7 +11,7 @@ use Rattle.c_type_trees.proofs.sequences.assigned_by.Goals as goal
 
 pub loop-side-preserved : goal.loop-side-preserved
 loop-side-preserved c =
-    c.loop-side.invariant ∙ side_popped _ _ c.in-Some.side _ _ c.args.around.now _ _ c.in-Some.ensures c.in-Ok-assign_row.ensures
+    c.loop-side.invariant ∙ side_popped _ _ c.in-Some.side _ _ c.args.around.now _ _ c.in-Some.ensures (rw c.released.ensures at c.in-Ok-assign_row.ensures)
 
 pub returns : goal.returns
 returns c =

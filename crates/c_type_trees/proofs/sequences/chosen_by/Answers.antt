@@ -11,7 +11,7 @@ use Rattle.c_type_trees.proofs.sequences.chosen_by.Goals as goal
 
 pub loop-choice-preserved : goal.loop-choice-preserved
 loop-choice-preserved c =
-    c.loop-choice.invariant ∙ choice_popped _ _ c.in-Some.choice _ _ c.args.around.now _ _ c.in-Some.ensures c.in-Ok-conditional_row.ensures
+    c.loop-choice.invariant ∙ choice_popped _ _ c.in-Some.choice _ _ c.args.around.now _ _ c.in-Some.ensures (rw (c.released-condition.ensures, c.released-gives.ensures) at c.in-Ok-conditional_row.ensures)
 
 pub returns : goal.returns
 returns c =

@@ -7,7 +7,7 @@ use Rattle.c_types.proofs.unit.file_objects.Goals as goal
 use Rattle.c_types.proofs.unit.file_objects.Goals.{in-Declaration+in_ok-defined_objects, in_default}
 
 pub loop-one-init : goal.loop-one-init
-loop-one-init c = begun c.args.list.now (named c.new-names.result) c.new-visible.result c.new-all.result c.new-names.ensures c.new-visible.ensures c.new-all.ensures
+loop-one-init c = begun c.args.list.now (named c.new-names.result) c.new-all.result c.new-names.ensures c.new-all.ensures
 
 pub loop-one-preserved : goal.loop-one-preserved
 loop-one-preserved c =

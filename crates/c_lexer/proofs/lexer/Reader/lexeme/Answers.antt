@@ -1,7 +1,6 @@
 use Rattle.std.proofs.Common.{sym, ◌∙◌, subst, length, take}
 use Rattle.std.proofs.lemmas.List.{length-take-le}
 use Rattle.std.proofs.lemmas.Result.{err_from_is_err_and}
-use Rattle.c_lexer.specs.declared.reading.Reading.{Reading}
 use Rattle.c_lexer.specs.Scan.{Suits, IsWithin}
 use Rattle.c_lexer.proofs.Bad.{reading_within}
 use Rattle.c_lexer.proofs.Pieces.{stray_outcome, token_same, fault_outcome}

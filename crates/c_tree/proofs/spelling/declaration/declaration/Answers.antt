@@ -1,6 +1,6 @@
 use Rattle.std.proofs.Common.{append_assoc}
-use Rattle.c_tree.proofs.Appends.{kinds-append}
+use Rattle.c_tree.proofs.Appends.{told-append}
 use Rattle.c_tree.proofs.spelling.declaration.declaration.Goals as goal
 
 pub returns : goal.returns
-returns c = rw (c.in_ok-punct.ensures, c.in_ok-init_declarators.ensures, c.as_slice-2.ensures, c.in_ok-specifiers.ensures, c.as_slice.ensures) (simp (kinds-append, append_assoc))
+returns g c = rw (c.in_ok-punct.ensures, c.in_ok-init_declarators.ensures, c.as_slice-2.ensures, c.in_ok-specifiers.ensures, c.as_slice.ensures) (simp (told-append g.S.Taker.shown, append_assoc))

@@ -11,4 +11,4 @@ returns-in-Plain g c =
 pub returns-in_ok-operand-in-Valued : goal.returns-in_ok-operand-in-Valued
 returns-in_ok-operand-in-Valued g c =
     rw (c.in-Valued.is, enumerator_typing-Valued)
-    (enumerated c.in-Valued.name (expr_typing c.in-Valued.value) c.args.around.now _ _ _ _ _ c.in_ok-operand-in-Valued.ensures (rw c.first_token-first.ensures at c.valued_enumerator.ensures))
+    (enumerated c.in-Valued.name (expr_typing c.in-Valued.value) c.args.around.now _ _ _ _ _ c.in_ok-operand-in-Valued.ensures (rw (c.first_token-first.ensures, c.released.ensures) at c.valued_enumerator.ensures))

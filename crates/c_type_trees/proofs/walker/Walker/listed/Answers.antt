@@ -3,7 +3,7 @@
 use Rattle.c_type_trees.proofs.walker.Walker.listed.Goals as goal
 
 pub returns-then-defining : goal.returns-then-defining
-returns-then-defining g c = rw c.if-defining.true c.parameters.ensures
+returns-then-defining g c = rw c.if-defining.true c.of_definition.ensures
 
 pub returns-else-defining : goal.returns-else-defining
 returns-else-defining g c = rw c.if-defining.false c.prototype.ensures

@@ -9,7 +9,7 @@ use Rattle.c_type_trees.proofs.walker.Walker.other.Goals as goal
 
 pub returns-in-Name : goal.returns-in-Name
 returns-in-Name g c =
-    rw (c.in-Name.is, out_Name) c.name_row.ensures
+    rw (c.in-Name.is, out_Name) c.named.ensures
 
 pub returns-in-Number : goal.returns-in-Number
 returns-in-Number g c =

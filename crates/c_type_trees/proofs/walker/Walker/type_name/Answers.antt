@@ -4,8 +4,7 @@ use Rattle.std.proofs.Common.{map}
 use Rattle.std.specs.Prelude.{false}
 use Rattle.std.specs.Option.{option_map}
 use Rattle.c_tree.specs.declared.expression.TypeName.{out-TypeName}
-use Rattle.c_typing.specs.Declarators.{specifiers_row, declared_type}
-use Rattle.c_typing.specs.OfTrees.{basis_type}
+use Rattle.c_typing.specs.Declarators.{basis_type, specifiers_row, declared_type}
 use Rattle.c_typing.specs.Trees.{specifier_typing, declarator_typing, type_name_typing-is}
 use Rattle.c_type_trees.proofs.Arms.{then_walk}
 use Rattle.c_type_trees.proofs.walker.Walker.type_name.Goals as goal

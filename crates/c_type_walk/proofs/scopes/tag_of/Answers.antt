@@ -1,0 +1,19 @@
+-- `tag_of` of src/scopes.rt: what the check leaves open of its proof.
+-- What a tag stands for here.
+use Rattle.std.proofs.Common.{◌≡◌, ◌∙◌, sym, ap, Some, None}
+use Rattle.std.specs.Option.{option_copied}
+use Rattle.c_typing.specs.Scopes.{latest}
+use Rattle.c_type_walk.proofs.Visible.{hidden, seen}
+use Rattle.c_type_walk.proofs.scopes.tag_of.Goals as goal
+
+pub returns-in-Some : goal.returns-in-Some
+returns-in-Some c =
+    let s = c.args.state.now in
+    let there : latest s.tags c.args.name.now ≡ Some c.in-Some.tag.now = sym c.get.ensures.last ∙ ap option_copied c.in-Some.is in
+    sym (hidden s.outer.tags s.tags c.args.name.now c.in-Some.tag.now there)
+
+pub returns-in-None : goal.returns-in-None
+returns-in-None c =
+    let s = c.args.state.now in
+    let none : latest s.tags c.args.name.now ≡ None = sym c.get.ensures.last ∙ ap option_copied c.in-None.is in
+    c.get-in-None.ensures.last ∙ sym (seen s.outer.tags s.tags c.args.name.now none)

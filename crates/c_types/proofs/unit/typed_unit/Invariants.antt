@@ -1,9 +1,0 @@
--- `typed_unit` of src/unit.rt: what holds in its loop.
--- The typed tree of a unit, of what was found at its end.
-use Rattle.std.proofs.Common.{◌≡◌, ◌++◌, drop, map}
-use Rattle.c_typing.specs.Units as spec
-use Rattle.c_types.proofs.unit.typed_unit.Given as goal
-
-abbrev pub invariant-loop-name : goal.invariant-loop-name
-invariant-loop-name l =
-    l.all ++ map (spec.file_object l.state) (drop l.name-index l.name-items) ≡ map (spec.file_object l.state) l.objects

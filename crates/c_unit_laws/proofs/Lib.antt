@@ -1,0 +1,1 @@
+-- No lemmas stand here: those that the proofs of this crate's functions cite are in specs.

@@ -1,0 +1,1 @@
+-- No definition of its own: the contracts speak of lists, in the words of std.
